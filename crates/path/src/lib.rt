@@ -1,0 +1,4 @@
+//! The types that a drawing and a stroke are made of.
+pub mod command;
+pub mod geometry;
+pub mod style;
