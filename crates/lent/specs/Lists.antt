@@ -1,7 +1,7 @@
 -- The list that a lent slice and a count mean.
 use mathlib.Core.Bool.{Bool, cond}
 use mathlib.Core.List.{List}
-use Prim.Native.Nat.{ℕ, _+_, min}
+use Prim.Native.Nat.{ℕ, _+_, _-_, min}
 use lib.Dec.{ltb}
 use lib.ListN.{length, take, set}
 use denote.Ref.{RefT, now, at-last}
@@ -20,6 +20,10 @@ empty places = record { places = places; count = 0 }
 -- the first places as they are, at most all of them
 abbrev pub counted : {X : Type 0} → RefT (List X) → ℕ → Lent X
 counted places count = record { places = places; count = min count (length (now places)) }
+
+-- how many places are left
+abbrev pub left : {X : Type 0} → Lent X → ℕ
+left l = length (now (l .places)) - l .count
 
 -- whether a place is left
 abbrev pub room : {X : Type 0} → Lent X → Bool

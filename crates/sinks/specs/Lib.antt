@@ -1,0 +1,5 @@
+pub mod Floats
+pub mod Boxes
+pub mod Meaning
+pub mod Records
+pub mod Shifts
