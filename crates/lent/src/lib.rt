@@ -1,7 +1,7 @@
 //! A list in places that the caller lends, for every element type that can be copied.
 ghost use mathlib.Core.Path.{_≡_};
 ghost use mathlib.Core.Bool.{cond};
-ghost use lib.ListN.{length};
+ghost use lib.ListN.{length, take};
 ghost use denote.Ref.{now};
 ghost use Rattle.std.specs.shelf.Maps.{nth};
 ghost use Rattle.lent.specs.Lists.{items, empty, counted, room, pushed, cleared, push-answer};
@@ -37,18 +37,20 @@ impl<'a, T: Copy> Lent<'a, T> {
     pub fn len(&self) -> usize
         ensures { λ r. ⌜ r ≡ length (items (now (self .entry))) ⌝ }
     {
-        self.count.min(self.places.len())
+        self.held().len()
     }
 
     /// The element at a place, none past the end.
     pub fn get(&self, i: usize) -> Option<T>
         ensures { λ r. ⌜ r ≡ nth (items (now (self .entry))) i ⌝ }
     {
-        if i < self.count {
-            self.places.get(i).copied()
-        } else {
-            None
-        }
+        element(self.held(), i)
+    }
+
+    fn held(&self) -> &[T]
+        ensures { λ r. ⌜ now r ≡ items (now (self .entry)) ⌝ }
+    {
+        front(self.places, self.count)
     }
 
     /// One element more at the end; refused where every place is taken, and nothing is altered then.
@@ -77,7 +79,18 @@ impl<'a, T: Copy> Lent<'a, T> {
         ensures { λ r. ⌜ now r ≡ items (self .entry) ⌝ }
     {
         let Lent { places, count } = self;
-        let n = count.min(places.len());
-        &places[0..n]
+        front(places, count)
     }
+}
+
+fn front<T>(places: &[T], count: usize) -> &[T]
+    ensures { λ r. ⌜ now r ≡ take count (now (places .entry)) ⌝ }
+{
+    if count < places.len() { &places[0..count] } else { places }
+}
+
+fn element<T: Copy>(s: &[T], i: usize) -> Option<T>
+    ensures { λ r. ⌜ r ≡ nth (now (s .entry)) i ⌝ }
+{
+    s.get(i).copied()
 }
