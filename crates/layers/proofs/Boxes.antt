@@ -1,30 +1,38 @@
--- Boxes with the same corners are the same.
-use mathlib.Core.Bool.{Bool, true, false}
-use mathlib.Core.HLevel.{isProp→PathP}
-use mathlib.Core.Path.{_≡_, refl, sym, ap, _∙_}
-use lib.Dec.{T, T-prop}
-use lib.Ieee.{le}
+-- Corners that were spread over points are in order.
+use mathlib.Core.Bool.{true}
+use mathlib.Core.List.{List, [], _∷_}
+use mathlib.Core.Path.{_≡_, refl}
+use lib.Ieee.Bits.{is-true}
 use Rattle.std.specs.declared.option.Option.{Option}
-use Rattle.std.specs.declared.option.Option.the-variants.{Some}
+use Rattle.std.specs.declared.option.Option.the-variants.{Some, None}
+use Rattle.std.proofs.shelf.Tests.{cond-both, cond-true, and-parts, and-from}
 use Rattle.path.specs.declared.geometry.Vector.{Vector}
-use Rattle.layers.specs.Boxes.{number, around, given, spread}
-use Rattle.layers.specs.declared.bounding_box.BoundingBox.{BoundingBox}
+use Rattle.layers.specs.Boxes.{number, around, spread, spreads, in-order, ordered}
+use Rattle.layers.specs.declared.bounds.Corners.{Corners}
+use Rattle.layers.proofs.Floats.{holds, le-self, widened}
 
-pub same-box : (a b : BoundingBox) → a .low ≡ b .low → a .high ≡ b .high → a ≡ b
-same-box a b low high = λ i. record {
-  low = low i;
-  high = high i;
-  wide = isProp→PathP (λ j. T (le (low j .x) (high j .x))) (λ j. T-prop (le (low j .x) (high j .x))) (a .wide) (b .wide) i;
-  tall = isProp→PathP (λ j. T (le (low j .y) (high j .y))) (λ j. T-prop (le (low j .y) (high j .y))) (a .tall) (b .tall) i;
-}
+abbrev Sound : Option Corners → Type 0
+Sound None = Unit {0}
+Sound (Some c) = in-order c ≡ true
 
-taken : {X : Type 0} (b : Bool) (f : T b → X) (d : X) (ok : T b) → f ok ≡ given b f d
-taken true f d ok = refl
-taken false f d ok = absurd ok
+sound-around : (o : Option Corners) (p : Vector) → number p ≡ true → Sound o → in-order (around o p) ≡ true
+sound-around None p is s =
+    let n = and-parts _ _ is in
+    and-from _ _ (is-true _ (le-self (p .x) (holds (n .0)))) (is-true _ (le-self (p .y) (holds (n .1))))
+sound-around (Some c) p is s =
+    let n = and-parts _ _ is in
+    let o = and-parts _ _ s in
+    and-from _ _
+    (is-true _ (widened (c .low .x) (c .high .x) (p .x) (holds (o .0)) (holds (n .0))))
+    (is-true _ (widened (c .low .y) (c .high .y) (p .y) (holds (o .1)) (holds (n .1))))
 
--- a point that is a number widens the box
-pub spreads : (o o' : Option BoundingBox) (p : Vector) (r : BoundingBox) → number p ≡ true → o ≡ o'
-    → ((ok : T (number p)) → r ≡ around o' p ok) → Some r ≡ spread o p
-spreads o o' p r is same made =
-    let ok : T (number p) = rw is tt in
-    ap Some (made ok) ∙ ap (λ v. Some (around v p ok)) (sym same) ∙ taken (number p) (λ yes. Some (around o p yes)) o ok
+sound-spreads : (o : Option Corners) (ps : List Vector) → Sound o → Sound (spreads o ps)
+sound-spreads o [] s = s
+sound-spreads o (p ∷ ps) s = sound-spreads (spread o p) ps (cond-both (number p) (Some (around o p)) o Sound (λ is. sound-around o p is s) (λ is. s))
+
+sound-stays : (o : Option Corners) → Sound o → ordered o ≡ o
+sound-stays None s = refl
+sound-stays (Some c) s = cond-true (in-order c) (Some c) None s
+
+pub spread-in-order : (ps : List Vector) → ordered (spreads None ps) ≡ spreads None ps
+spread-in-order ps = sound-stays (spreads None ps) (sound-spreads None ps tt)

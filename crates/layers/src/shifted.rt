@@ -1,11 +1,11 @@
 ghost use mathlib.Core.Path.{_≡_};
 ghost use Rattle.layers.specs.Shifts.{moved-point, moved, shifted};
-use sinks::sink::Sent;
-use sinks::sink::Sink;
-use sinks::sink::SinkMeaning;
 use path::command::Command;
 use path::geometry::Point;
 use path::geometry::Vector;
+use sinks::sink::Sent;
+use sinks::sink::Sink;
+use sinks::sink::SinkMeaning;
 
 /// A layer over any sink: every point is moved by one vector before it is handed on.
 #[derive(Drop)]

@@ -37,17 +37,18 @@ impl<'a, T: Copy> Lent<'a, T> {
     pub fn len(&self) -> usize
         ensures { λ r. ⌜ r ≡ length (items (now (self .entry))) ⌝ }
     {
-        self.held().len()
+        self.as_slice().len()
     }
 
     /// The element at a place, none past the end.
     pub fn get(&self, i: usize) -> Option<T>
         ensures { λ r. ⌜ r ≡ nth (items (now (self .entry))) i ⌝ }
     {
-        element(self.held(), i)
+        element(self.as_slice(), i)
     }
 
-    fn held(&self) -> &[T]
+    /// The elements, in their order.
+    pub fn as_slice(&self) -> &[T]
         ensures { λ r. ⌜ now r ≡ items (now (self .entry)) ⌝ }
     {
         front(self.places, self.count)
@@ -86,7 +87,11 @@ impl<'a, T: Copy> Lent<'a, T> {
 fn front<T>(places: &[T], count: usize) -> &[T]
     ensures { λ r. ⌜ now r ≡ take count (now (places .entry)) ⌝ }
 {
-    if count < places.len() { &places[0..count] } else { places }
+    if count < places.len() {
+        &places[0..count]
+    } else {
+        places
+    }
 }
 
 fn element<T: Copy>(s: &[T], i: usize) -> Option<T>

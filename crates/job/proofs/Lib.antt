@@ -1,0 +1,4 @@
+mod Pushes
+mod Spelled
+mod Stores
+mod Turns

@@ -1,0 +1,4 @@
+pub mod Readers
+pub mod Jobs
+pub mod Whole
+pub mod Laws
