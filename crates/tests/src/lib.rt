@@ -1,7 +1,6 @@
-//! What the crates do on examples, and code that holds to the lifetimes of a record list.
+//! What the crates do on examples.
 #[cfg(test)]
 mod jobs;
-pub mod lifetimes;
 #[cfg(test)]
 mod listings;
 #[cfg(test)]

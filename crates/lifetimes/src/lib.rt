@@ -1,3 +1,4 @@
+//! Code that holds to the lifetimes of a record list. `must-not-compile` has the edits that break them.
 ghost use mathlib.Core.Path.{_≡_};
 ghost use mathlib.Core.Bool.{cond};
 ghost use lib.Dec.{ltb};
