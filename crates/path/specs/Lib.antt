@@ -1,3 +1,4 @@
 pub mod Kinds
 pub mod Refusals
 pub mod Styles
+pub mod Vectors

@@ -7,3 +7,5 @@ mod listings;
 mod lists;
 #[cfg(test)]
 mod piles;
+#[cfg(test)]
+mod vectors;

@@ -1,0 +1,3 @@
+pub mod Arithmetic
+pub mod Steps
+pub mod Roots
