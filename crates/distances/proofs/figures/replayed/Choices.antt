@@ -1,0 +1,9 @@
+use mathlib.Core.Path.{_≡_}
+use lib.ListN.{drop}
+use Rattle.distances.specs.Figures.{no-figures, replayed}
+use Rattle.distances.proofs.figures.replayed.Given as given
+
+abbrev pub Inv-loop-row : given.InvT-loop-row
+Inv-loop-row g l =
+    (g .K·MathsMeaning .functions (l .host) ≡ g .K·MathsMeaning .functions (l .entry .host))
+    × (replayed (g .K·MathsMeaning .functions (l .entry .host)) (l .f) (drop (l .row-index) (l .rows)) (l .figures) ≡ replayed (g .K·MathsMeaning .functions (l .entry .host)) (l .f) (l .rows) no-figures)

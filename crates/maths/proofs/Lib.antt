@@ -1,0 +1,5 @@
+pub mod Alike
+mod Angles
+mod Constants
+mod Rows
+mod Specials
