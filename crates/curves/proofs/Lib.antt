@@ -1,0 +1,2 @@
+mod Chords
+mod Times
