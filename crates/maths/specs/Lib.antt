@@ -5,3 +5,4 @@ pub mod Arcs
 pub mod Powers
 pub mod Series
 pub mod Tables
+pub mod Questions

@@ -10,4 +10,6 @@ mod lists;
 #[cfg(test)]
 mod piles;
 #[cfg(test)]
+mod roots;
+#[cfg(test)]
 mod vectors;
