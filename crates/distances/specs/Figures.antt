@@ -53,6 +53,14 @@ abbrev pub with-row : Functions → Function → Row → Figures → Figures
 with-row fs f r g =
     cond (eqb (r .function) (numbered f)) (counted g f (ofBits binary32 (r .argument)) (ofBits binary32 (r .answer)) (apply fs f (ofBits binary32 (r .argument)))) g
 
+-- a step for each row, in their order
+abbrev pub over : {S : Type 0} → (Row → S → S) → List Row → S → S
+over step [] s = s
+over step (r ∷ rs) s = over step rs (step r s)
+
 abbrev pub replayed : Functions → Function → List Row → Figures → Figures
-replayed fs f [] g = g
-replayed fs f (r ∷ rs) g = replayed fs f rs (with-row fs f r g)
+replayed fs f rs g = over (with-row fs f) rs g
+
+-- a host that was asked what a row asks, if it is a row of the function
+abbrev pub row-asked : {S : Type 0} → (S → Function → Float → S) → Function → Row → S → S
+row-asked asked f r s = cond (eqb (r .function) (numbered f)) (asked s f (ofBits binary32 (r .argument))) s

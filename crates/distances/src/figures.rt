@@ -1,5 +1,5 @@
 ghost use mathlib.Core.Path.{_≡_};
-ghost use Rattle.distances.specs.Figures.{reach, limit, in-reach, no-figures, one-more, counted, with-row, replayed};
+ghost use Rattle.distances.specs.Figures.{reach, limit, in-reach, no-figures, one-more, counted, with-row, replayed, over, row-asked};
 use crate::steps;
 use maths::host::Function;
 use maths::host::MathsHost;
@@ -88,7 +88,8 @@ fn one_more(n: u64, counts: bool) -> u64
 
 /// The figures of a host's answers to the rows of one function.
 pub fn replayed<K: MathsHost>(host: &mut K, f: Function, rows: &[Row]) -> Figures
-    ensures { λ r. ⌜ r ≡ replayed (K·MathsMeaning .functions (now (host .entry))) f (now (rows .entry)) no-figures ⌝ }
+    ensures value { λ r. ⌜ r ≡ replayed (K·MathsMeaning .functions (now (host .entry))) f (now (rows .entry)) no-figures ⌝ }
+    ensures host { λ _. ⌜ now (host .exit) ≡ over (row-asked (K·MathsMeaning .asked) f) (now (rows .entry)) (now (host .entry)) ⌝ }
 {
     let mut figures = Figures::new();
     for row in rows {
@@ -99,6 +100,7 @@ pub fn replayed<K: MathsHost>(host: &mut K, f: Function, rows: &[Row]) -> Figure
 
 fn with_row<K: MathsHost>(host: &mut K, f: Function, row: Row, figures: Figures) -> Figures
     ensures value { λ r. ⌜ r ≡ with-row (K·MathsMeaning .functions (now (host .entry))) f row figures ⌝ }
+    ensures host { λ _. ⌜ now (host .exit) ≡ row-asked (K·MathsMeaning .asked) f row (now (host .entry)) ⌝ }
     ensures same { λ _. ⌜ K·MathsMeaning .functions (now (host .exit)) ≡ K·MathsMeaning .functions (now (host .entry)) ⌝ }
 {
     if row.function != f.number() {

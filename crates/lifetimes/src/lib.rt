@@ -10,8 +10,8 @@ use sinks::record_list::RecordListSink;
 use sinks::sink::Sent;
 use sinks::sink::Sink;
 
-/// A list that was ended takes nothing more: a new one over the same places does.
-pub fn send_again(places: &mut [Command], first: Command, second: Command) -> Sent
+// A list that was ended takes nothing more: a new one over the same places does.
+fn send_again(places: &mut [Command], first: Command, second: Command) -> Sent
     ensures { λ r. ⌜ r ≡ cond (ltb 0 (length (now (places .entry)))) Taken Refused ⌝ }
 {
     let mut list = RecordList::new(places);
@@ -21,8 +21,8 @@ pub fn send_again(places: &mut [Command], first: Command, second: Command) -> Se
     again.send(second)
 }
 
-/// The places are written only once what the list handed out is no longer read.
-pub fn write_after_reading(places: &mut [Command; 2], command: Command) -> usize
+// The places are written only once what the list handed out is no longer read.
+fn write_after_reading(places: &mut [Command; 2], command: Command) -> usize
     ensures { λ r. ⌜ r ≡ 1 ⌝ }
 {
     let mut list = RecordList::new(places);

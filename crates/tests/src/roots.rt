@@ -11,8 +11,8 @@ use maths::table::TableMathsHost;
 use path::geometry::Point;
 use std::test::*;
 
-// The rows are the questions that the Rust asked at these curves, with the answers that it had; the
-// expected roots are its own.
+// The rows are the questions that the Rust asked at these curves, with the answers that it had. The
+// expected roots are its own, but where a comment says otherwise.
 
 fn row(f: Function, argument: u32, answer: u32) -> Row {
     Row {
@@ -73,7 +73,8 @@ fn roots_of_a_loop() -> Result<(), Fail> {
     check_eq(bits(found), ([0x3EB0_1B9F, 0x3F2A_2B93, 0x3F4F_9274], 3))
 }
 
-// No row answers the first cosine, so the first root is NaN: it swaps with nothing.
+// No row answers the first cosine, so the first root is NaN: it swaps with nothing. The order is that
+// of the rule, and not the Rust's.
 #[test]
 fn nan_among_three() -> Result<(), Fail> {
     let curve = Curve::new(at(0.0, 0.0), at(-5.0, -1.0), at(-8.0, 5.0), at(-9.0, 9.0));
