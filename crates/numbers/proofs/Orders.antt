@@ -1,7 +1,6 @@
 -- Numbers in order: of two that are no NaN one is at most the other.
-use Rattle.std.proofs.Common.{◌≡◌, ℕ, ◌+◌, ◌<◌, Bool, true, false, cond, not, ◌&&◌, ◌||◌, T, eqb, ltb, ◌⊎◌, refl, inl, inr, ⊎_elim, arith}
-use mathlib.Core.Bool.{beq}
-use lib.Ieee.{Float, nan, inf, fin, lt, le, eq, is_nan, below, level, up, down}
+use Rattle.std.proofs.Common.{◌≡◌, ℕ, ◌+◌, ◌<◌, Bool, true, false, not, ◌||◌, T, eqb, ltb, refl, ⊎_elim, arith}
+use lib.Ieee.{Float, nan, inf, fin, lt, le, eq, is_nan, below, level}
 use Rattle.std.proofs.lemmas.Bool.{cases_Bool, cases_order, cases_lt, lt-ltb, ltb-false, eq-eqb, and_from, or_left, or_right}
 
 signed : (s t : Bool) (a b : ℕ) → below s a t b ≡ false → (below t b s a || level t b s a) ≡ true

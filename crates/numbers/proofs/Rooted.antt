@@ -1,13 +1,13 @@
 -- What lies as near to the root as `NearestRoot` says, and is an `f32`, is the root that `Floats.sqrt` rounds: so there is one.
-use Rattle.std.proofs.Common.{◌≡◌, ℕ, zero, suc, ◌+◌, ◌-◌, ◌*◌, ◌/◌, ◌^◌, ◌<◌, ◌≤◌, true, false, T, ℤ, sym, refl, ap, ◌∙◌, subst, true≢false, mul-le-mul_right, mul_assoc, div-lt_iff_lt-mul, lt_of_mul-lt-mul_right, mul-lt-mul_of_pos_right, mul-pos, le-div_iff_mul-le, mul_right_comm, mul-div_cancel, arith, ltb→lt, pow_pos, pow-add}
-use lib.Ieee.{Float, nan, inf, fin, binary32, up, down, size, round, to_bits, of_bits, fits}
+use Rattle.std.proofs.Common.{◌≡◌, ℕ, zero, suc, ◌+◌, ◌-◌, ◌*◌, ◌/◌, ◌^◌, ◌<◌, ◌≤◌, Bool, true, false, T, ℤ, pos, negsuc, sym, refl, ap, ◌∙◌, subst, true≢false, mul-le-mul_right, mul_assoc, div-lt_iff_lt-mul, lt_of_mul-lt-mul_right, mul-lt-mul_of_pos_right, mul-pos, le-div_iff_mul-le, mul_right_comm, mul-div_cancel, arith, ltb→lt, eqb→eq, pow-suc, pow_pos, pow-add}
+use lib.Ieee.{Float, nan, inf, fin, binary32, up, down, size, round, root_below, root_twice, to_bits, of_bits, fits}
 use lib.Ieee.Bits.{of_bits-to_bits}
 use lib.Ieee.Exact.{HasValue}
 use lib.Ieee.Fits.{down_pos, and_r, round-fits}
 use lib.Ieee.Nearest.{closest}
 use lib.Ieee.Order.{drop}
 use lib.Ieee.Scale.{grid, round_val}
-use Rattle.std.specs.Float.{isqrt-below, twice-sqrt-sticky, sqrt}
+use Rattle.std.specs.Float.{sqrt}
 use Rattle.numbers.specs.Roots.{Nearest, RootBetween, NearestRoot}
 use Rattle.numbers.proofs.Squares.{twice_above, twice_below, twice_from, merge, four, size_is, closest_is}
 
@@ -79,20 +79,20 @@ module _ (n h q : ℕ) (low : 2 ^ 46 ≤ n) (near : Nearest n q) (small : q < 2 
   W : 0 < w
   W = pow_pos (h + 2172)
 
-  above : 2 * ((2 * q - 1) * w) < twice-sqrt-sticky v
+  above : 2 * ((2 * q - 1) * w) < root_twice v
   above = twice_above v ((2 * q - 1) * w) (omega (arith, mul-lt-mul_of_pos_right near.above (mul-pos W W)))
 
-  below : twice-sqrt-sticky v < 2 * ((2 * q + 1) * w)
+  below : root_twice v < 2 * ((2 * q + 1) * w)
   below = twice_below v ((2 * q + 1) * w) (omega (arith, mul-lt-mul_of_pos_right near.below (mul-pos W W)))
 
-  at_least : 2 * (2 ^ 24 * w) ≤ twice-sqrt-sticky v
+  at_least : 2 * (2 ^ 24 * w) ≤ root_twice v
   at_least = twice_from v (2 ^ 24 * w) (omega (arith, mul-le-mul_right (w * w) low))
 
-  rounded : Steps (round binary32 false (twice-sqrt-sticky v) (2 ^ 2272)) (q * 2 ^ (h + 51))
+  rounded : Steps (round binary32 false (root_twice v) (2 ^ 2272)) (q * 2 ^ (h + 51))
   rounded =
-      let e = grid_is (twice-sqrt-sticky v) (2 ^ 2272) w h q (pow_pos 2272) W (merge 2272 (h + 51) (h + 2172) 151 (omega arith)) above below at_least small in
-      subst (λ (k : ℕ). Steps (round binary32 false (twice-sqrt-sticky v) (2 ^ 2272)) k) e
-      (round_val binary32 (twice-sqrt-sticky v) (2 ^ 2272) (subst (λ (k : ℕ). k < 2 ^ 277) (sym e) fine))
+      let e = grid_is (root_twice v) (2 ^ 2272) w h q (pow_pos 2272) W (merge 2272 (h + 51) (h + 2172) 151 (omega arith)) above below at_least small in
+      subst (λ (k : ℕ). Steps (round binary32 false (root_twice v) (2 ^ 2272)) k) e
+      (round_val binary32 (root_twice v) (2 ^ 2272) (subst (λ (k : ℕ). k < 2 ^ 277) (sym e) fine))
 
 -- ---- the answer, in the format's smallest steps
 
@@ -116,19 +116,26 @@ unfolding sqrt
 positive m e r f b =
     let k = in_steps r b.q b.h b.is in
     let c = rounded b.n b.h b.q b.scaled.low b.near b.digits.1 (steps_fit r (b.q * 2 ^ (b.h + 51)) f k) in
-    same_steps r (round binary32 false (twice-sqrt-sticky (4 * b.n * (2 ^ (b.h + 2172) * 2 ^ (b.h + 2172)))) (2 ^ 2272)) (b.q * 2 ^ (b.h + 51)) f (round-fits binary32 false _ (2 ^ 2272)) k c
-    ∙ ap (λ (x : ℕ). round binary32 false (twice-sqrt-sticky x) (2 ^ 2272)) (sym (radicand (suc m * up e) (down e) b.n b.h (down_pos e) b.scaled.of.1))
+    same_steps r (round binary32 false (root_twice (4 * b.n * (2 ^ (b.h + 2172) * 2 ^ (b.h + 2172)))) (2 ^ 2272)) (b.q * 2 ^ (b.h + 51)) f (round-fits binary32 false (root_twice (4 * b.n * (2 ^ (b.h + 2172) * 2 ^ (b.h + 2172)))) (2 ^ 2272)) k c
+    ∙ ap (λ (x : ℕ). round binary32 false (root_twice x) (2 ^ 2272)) (sym (radicand (suc m * up e) (down e) b.n b.h (down_pos e) b.scaled.of.1))
+
+-- a zero that a format holds is written in one way
+zero_power : (s : Bool) (e : ℤ) → T (fits binary32 (fin s zero e)) → e ≡ pos 0
+unfolding fits
+zero_power s (pos zero) f = refl
+zero_power s (pos (suc k)) f = absurd (omega (arith, eqb→eq (up (pos (suc k)) * 1) 1 f, pow-suc 2 k))
+zero_power s (negsuc k) f = absurd (omega (arith, eqb→eq (1 * down (negsuc k)) 1 f, pow-suc 2 k))
 
 pub one_root : (x r : Float) → T (fits binary32 r) → NearestRoot x r → r ≡ sqrt binary32 x
 unfolding sqrt
 one_root nan r f h = h
 one_root (inf false) r f h = h
 one_root (inf true) r f h = h
-one_root (fin s zero e) r f h = h
+one_root (fin s zero e) r f h = h ∙ ap (λ (k : ℤ). fin s 0 k) (zero_power s e (subst (λ (x : Float). T (fits binary32 x)) h f))
 one_root (fin true (suc m) e) r f h = h
 one_root (fin false (suc m) e) r f h = positive m e r f h
 
 -- the definition computes
 root_of_two : sqrt binary32 (of_bits binary32 0x4000_0000) ≡ of_bits binary32 0x3fb5_04f3
-unfolding sqrt of_bits twice-sqrt-sticky isqrt-below round
+unfolding sqrt of_bits root_twice root_below round
 root_of_two = refl

@@ -2,10 +2,9 @@
 use Rattle.std.proofs.Common.{◌≡◌, ℕ, zero, suc, ◌+◌, ◌-◌, ◌*◌, ◌/◌, ◌%◌, ◌^◌, ◌<◌, ◌≤◌, Bool, true, false, cond, not, T, eqb, leb, sym, refl, ap, ◌∙◌, subst, lt_of_lt_of_le, mul-le-mul_right, mod-lt, mul-le-mul, lt_of_mul-lt-mul_right, pow-suc, lt_of_not-le, div-add-mod', not-le_of_lt, arith, eqb→eq, leb→le, pow_mono, pow-add, eqb-true, leb-false, leb-true}
 use Prim.Native.Nat.{compare, Ordering}
 use lib.Dec.{is_le, compare_is_eq, nleb→lt}
-use lib.Ieee.{size, nearest}
+use lib.Ieee.{size, nearest, root_below, root_twice}
 use lib.Ieee.Digits.{size-lt, size-le}
 use lib.Ieee.Nearest.{closest}
-use Rattle.std.specs.Float.{isqrt-below, twice-sqrt-sticky}
 use Rattle.numbers.specs.Roots.{Nearest}
 
 abbrev Root : ℕ → ℕ → Type 0
@@ -15,10 +14,10 @@ digit : (r n : ℕ) (b : Bool) → Root r (n / 4) → leb ((2 * r + 1) * (2 * r 
 digit r n true h e = (leb-true _ _ e, omega (arith, h.1))
 digit r n false h e = (omega (arith, h.0), leb-false _ _ e)
 
-root_below : (k n : ℕ) → n < 2 ^ k → Root (isqrt-below k n) n
-unfolding isqrt-below
-root_below zero n h = omega arith
-root_below (suc k) n h = digit (isqrt-below k (n / 4)) n _ (root_below k (n / 4) (omega arith)) refl
+is_below : (k n : ℕ) → n < 2 ^ k → Root (root_below k n) n
+unfolding root_below
+is_below zero n h = omega arith
+is_below (suc k) n h = digit (root_below k (n / 4)) n _ (is_below k (n / 4) (omega arith)) refl
 
 pub lt_of_squares : (a b : ℕ) → a * a < b * b → a < b
 lt_of_squares a b h = lt_of_not-le (λ (g : b ≤ a). omega (arith, mul-le-mul g g))
@@ -27,29 +26,29 @@ lt_of_squares a b h = lt_of_not-le (λ (g : b ≤ a). omega (arith, mul-le-mul g
 
 module _ (v : ℕ) where
   abbrev s : ℕ
-  s = isqrt-below (size v) v
+  s = root_below (size v) v
 
   is_root : Root s v
-  is_root = root_below (size v) v (size-lt v)
+  is_root = is_below (size v) v (size-lt v)
 
-  pub twice_above : (w : ℕ) → w * w < v → 2 * w < twice-sqrt-sticky v
-  unfolding twice-sqrt-sticky
+  pub twice_above : (w : ℕ) → w * w < v → 2 * w < root_twice v
+  unfolding root_twice
   twice_above w h = go (eqb (s * s) v) (eqb-true (s * s) v)
     where
       go : (b : Bool) → (b ≡ true → s * s ≡ v) → 2 * w < 2 * s + cond b 0 1
       go false e = omega (arith, lt_of_squares w (s + 1) (omega (arith, is_root)))
       go true e = omega (arith, lt_of_squares w s (omega (arith, e refl)))
 
-  pub twice_below : (w : ℕ) → v < w * w → twice-sqrt-sticky v < 2 * w
-  unfolding twice-sqrt-sticky
+  pub twice_below : (w : ℕ) → v < w * w → root_twice v < 2 * w
+  unfolding root_twice
   twice_below w h = go (eqb (s * s) v)
     where
       go : (b : Bool) → 2 * s + cond b 0 1 < 2 * w
       go false = omega (arith, lt_of_squares s w (omega (arith, is_root)))
       go true = omega (arith, lt_of_squares s w (omega (arith, is_root)))
 
-  pub twice_from : (w : ℕ) → w * w ≤ v → 2 * w ≤ twice-sqrt-sticky v
-  unfolding twice-sqrt-sticky
+  pub twice_from : (w : ℕ) → w * w ≤ v → 2 * w ≤ root_twice v
+  unfolding root_twice
   twice_from w h = go (eqb (s * s) v)
     where
       go : (b : Bool) → 2 * w ≤ 2 * s + cond b 0 1

@@ -1,5 +1,7 @@
 //! Steps on `f32` numbers whose answers are fixed to the last bit: the root, the ceiling, the
 //! square and the clamp.
+#![tactic(auto)]
+
 ghost use Rattle.std.specs.Prelude.{◌≡◌};
 ghost use Rattle.std.specs.Float.Ieee as Ieee;
 ghost use Rattle.std.specs.Float.{binary32};

@@ -1,6 +1,8 @@
 //! Roots and ceilings of a table. A line of the input is a step and a bit pattern, and the line that
 //! is written for it is the answer's pattern. The input, and the answers to compare with, are made
 //! by tools/root_table.rs with the machine's own root and ceiling.
+#![tactic(auto)]
+
 use std::num::{f32_from_bits_with_nan, f32_to_bits_with_nan};
 
 fn step(name: &str, x: f32) -> f32 {

@@ -7,8 +7,8 @@ whole_root-q-requires c =
     let w = whole_in c.args.a.digits c.args.a.power c.with_even_power-n.result (c.requires.0, c.requires.1) c.with_even_power-n.ensures in
     (w.0, (w.1, c.guess.ensures))
 
-pub float-from_bits-result : goal.float-from_bits-result
-float-from_bits-result c = no_nan _ (omega (arith, c.whole_root-q.ensures.digits))
+pub float_from_bits-result : goal.float_from_bits-result
+float_from_bits-result c = no_nan _ (omega (arith, c.whole_root-q.ensures.digits))
 
 pub returns : goal.returns
 returns c = λ x s.
