@@ -1,5 +1,5 @@
 -- How far apart two f32 are.
-use Rattle.std.specs.Prelude.{ℕ, ◌+◌, ◌-◌, Bool, true, false, cond, ◌||◌, ◌==◌, from_bits, nat_le, to_bits, Float}
+use Rattle.std.specs.Prelude.{ℕ, ◌+◌, ◌-◌, Bool, false, cond, ◌||◌, ◌==◌, from_bits, nat_le, to_bits, Float}
 use Rattle.std.specs.Float.Ieee.{sub, mul, le, to_unsigned}
 use Rattle.std.specs.Float.{float_with_sign, ceil, binary32, binary64}
 

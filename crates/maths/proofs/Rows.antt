@@ -1,20 +1,12 @@
 -- Looking a question up row by row.
-use Rattle.std.proofs.Common.{◌≡◌, ℕ, suc, ◌+◌, ◌<◌, ◌≤◌, true, false, cond, List, [], ◌∷◌, length, get_or, drop, sym, refl, ap, ◌∙◌, add-one, drop_of_length-le, drop-cons}
+use Rattle.std.proofs.Common.{◌≡◌, ℕ, ◌+◌, ◌<◌, ◌≤◌, true, false, cond, List, length, get_or, drop, refl, ◌∙◌, add-one, drop_of_length-le, drop-cons}
 use lib.Ieee.{Float, nan, binary32, of_bits}
-use Rattle.std.proofs.lemmas.Bool.{cond_both, cond-true, cond-false}
+use Rattle.std.proofs.lemmas.Bool.{cond-true, cond-false}
 use Rattle.maths.specs.declared.host.Function.{Function}
 use Rattle.maths.specs.declared.host.Function.TheVariants.{Sine, Cosine, ArcCosine, Tangent, Power}
 use Rattle.maths.specs.declared.table.Row.{Row}
-use Rattle.maths.specs.Functions.{Functions, apply, gathered, Angle, in_range}
+use Rattle.maths.specs.Functions.{apply, gathered}
 use Rattle.maths.specs.Tables.{matches, lawful, looked_up}
-use Rattle.maths.specs.Angles.{nan_angle, ranged_angle}
-
-lawful_angle : (y : Float) → Angle (lawful ArcCosine y)
-lawful_angle y = cond_both (in_range y) y nan Angle (ranged_angle y) (λ _. nan_angle)
-
-pub looked_up_angle : (rs : List Row) (x : Float) → Angle (looked_up rs ArcCosine x)
-looked_up_angle [] x = nan_angle
-looked_up_angle (r ∷ rs) x = cond_both (matches r ArcCosine x) _ _ Angle (λ _. lawful_angle _) (λ _. looked_up_angle rs x)
 
 -- the five functions by their names
 pub gathered_apply : (g : Function → Float → Float) (f : Function) (x : Float) → g f x ≡ apply (gathered g) f x

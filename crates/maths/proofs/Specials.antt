@@ -1,9 +1,9 @@
 -- What a series host answers at special arguments: each is worked out.
-use Rattle.std.proofs.Common.{◌≡◌, ℕ, suc, ◌+◌, ◌*◌, ◌<◌, Bool, true, false, cond, ℤ, pos, refl, suc-le-suc, zero-le, mul-pos, arith}
+use Rattle.std.proofs.Common.{◌≡◌, ℕ, suc, ◌*◌, ◌<◌, Bool, true, false, ℤ, pos, refl, suc-le-suc, zero-le, mul-pos, arith}
 use lib.Count.{count_trailing_zeros}
-use lib.Ieee.{Float, nan, inf, fin, add, sub, mul, div, rem, neg, eq, lt, le, is_nan, up, down, round, sum, size, span, climb, units, odd, of_bits, of_fields}
+use lib.Ieee.{nan, inf, fin, add, sub, mul, div, rem, neg, eq, lt, le, up, down, round, sum, size, span, climb, units, odd, of_bits, of_fields}
 use lib.Ieee.Fits.{up_pos}
-use Rattle.std.specs.Float.{round_to_format, round_with, float_is_finite, sqrt, float_zero, float_one}
+use Rattle.std.specs.Float.{round_to_format, round_with, float_is_finite, sqrt, float_zero}
 use Rattle.std.proofs.lemmas.Bool.{lt-ltb, ne_eqb, and_left}
 use Rattle.maths.specs.declared.host.Function.{Function}
 use Rattle.maths.specs.declared.host.Function.TheVariants.{Sine, Cosine, ArcCosine, Tangent, Power}

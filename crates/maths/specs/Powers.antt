@@ -1,7 +1,7 @@
 -- The steps by which a series host works out the power 0.3333333.
 use Rattle.std.specs.Prelude.{◌+◌, ◌*◌, ◌/◌, ◌%◌, cond, [], ◌∷◌, pos, to_bits, Float}
 use Rattle.std.specs.Float.Ieee.{eq, lt, of_int, to_unsigned}
-use Rattle.std.specs.Float.{float_is_finite, round_ties_even, nan, binary64}
+use Rattle.std.specs.Float.{float_is_finite, round_ties_even, binary64}
 use Rattle.maths.specs.Wide.{◌⊕◌, ◌⊖◌, ◌⊗◌, ◌⊘◌, wide, polynomial}
 
 -- x is its significand, from 1 up to 2, times 2 to its exponent

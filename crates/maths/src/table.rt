@@ -1,7 +1,8 @@
-ghost use Rattle.std.specs.Prelude.{◌≡◌};
+ghost use Rattle.std.specs.Prelude.{◌≡◌, refl};
 ghost use Rattle.maths.specs.declared.host.Function.TheVariants.{ArcCosine};
 ghost use Rattle.maths.specs.Functions.{apply};
 ghost use Rattle.maths.specs.Tables.{matches, lawful, tabled};
+ghost use Rattle.maths.specs.Angles.{looked_up_angle};
 
 use crate::host::{Function, MathsHost, MathsMeaning, in_range, not_a_number};
 use std::num::{f32_from_bits_with_nan, f32_to_bits_with_nan};
@@ -43,6 +44,10 @@ impl<'a> MathsMeaning for TableHost<'a> {
     ghost functions = { λ s. tabled s.rows.now };
 
     ghost asked = { λ s _ _. s };
+
+    ghost same = { λ s f x. refl };
+
+    ghost ranged = { λ s x. looked_up_angle s.rows.now x };
 }
 
 impl<'a> MathsHost for TableHost<'a> {

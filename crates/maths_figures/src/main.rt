@@ -1,5 +1,7 @@
 //! Replays Rust's own answers, from standard input, through the series host, and prints for each
 //! function how many answers are equal and how far the others lie.
+#![tactic(auto)]
+
 use distances::figures::{Figures, limit, reach, replayed};
 use distances::rows::decoded;
 use maths::host::Function;

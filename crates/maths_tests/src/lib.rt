@@ -1,4 +1,6 @@
 //! What the maths hosts answer on examples.
+#![tactic(auto)]
+
 #[cfg(test)]
 mod series;
 #[cfg(test)]
