@@ -1,7 +1,6 @@
 ghost use Rattle.std.specs.Prelude.{◌≡◌, List, None};
 ghost use Rattle.path.specs.declared.geometry.Vector.{Vector};
 ghost use Rattle.layers.specs.Boxes.{lower, upper, number, around, spread, spreads, points, ordered, corners_of};
-ghost use Rattle.std.proofs.Common.{rules};
 
 use crate::bounding_box::BoundingBox;
 use path::command::Command;
@@ -57,9 +56,9 @@ impl<S: SinkMeaning> SinkMeaning for Bounds<S> {
 
     ghost took = { λ s c. record { inner = S.SinkMeaning.took s.inner c; corners = spreads s.corners (points c) } };
 
-    ghost kept = { Prim.search rules };
+    ghost kept = { λ s c. S.SinkMeaning.kept s.inner c };
 
-    ghost grows = { Prim.search rules };
+    ghost grows = { λ s c fits. S.SinkMeaning.grows s.inner c fits };
 }
 
 impl<S: Sink> Sink for Bounds<S> {

@@ -1,6 +1,7 @@
 ghost use Rattle.std.specs.Prelude.{◌≡◌};
 ghost use Rattle.layers.specs.Shifts.{moved_point, moved, shifted};
-ghost use Rattle.std.proofs.Common.{rules};
+ghost use Rattle.layers.specs.ShiftLaws.{kind_moved, shifted_takes, shifted_joined};
+ghost use Rattle.std.proofs.Common.{ap, ◌∙◌};
 
 use path::command::Command;
 use path::geometry::{Point, Vector};
@@ -57,9 +58,11 @@ impl<S: SinkMeaning> SinkMeaning for Shifted<S> {
 
     ghost took = { λ s c. record { inner = S.SinkMeaning.took s.inner (moved s.by c); by = s.by } };
 
-    ghost kept = { Prim.search rules };
+    ghost kept = { λ s c. S.SinkMeaning.kept s.inner (moved s.by c) ∙ kind_moved s.by c };
 
-    ghost grows = { Prim.search rules };
+    ghost grows = { λ s c fits.
+        ap (shifted s.by) (S.SinkMeaning.grows s.inner (moved s.by c) (shifted_takes s.by (S.SinkMeaning.meaning s.inner) c fits))
+        ∙ shifted_joined s.by (S.SinkMeaning.meaning s.inner) c };
 }
 
 impl<S: Sink> Sink for Shifted<S> {

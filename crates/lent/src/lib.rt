@@ -1,4 +1,6 @@
 //! A list in places that the caller lends, for every element type that can be copied.
+#![tactic(auto)]
+
 ghost use Rattle.std.specs.Prelude.{◌≡◌, length, take, if◌then◌else◌};
 ghost use Rattle.std.specs.List.{slice_get};
 ghost use Rattle.lent.specs.Lists.{items, empty, counted, room, pushed, cleared, push_answer};

@@ -1,4 +1,6 @@
 //! Code that holds to the lifetimes of a record list. `must-not-compile` has the edits that break them.
+#![tactic(auto)]
+
 ghost use Rattle.std.specs.Prelude.{◌≡◌, cond, ltb, length};
 ghost use Rattle.sinks.specs.declared.sink.Sent.TheVariants.{Taken, Refused};
 

@@ -1,5 +1,6 @@
-ghost use Rattle.std.specs.Prelude.{◌≡◌};
+ghost use Rattle.std.specs.Prelude.{◌≡◌, refl};
 ghost use Rattle.lent.specs.Lists.{empty, items, pushed};
+ghost use Rattle.sinks.specs.RecordLaws.{recorded_grows};
 ghost use Rattle.sinks.specs.Records.{recorded};
 
 use crate::sink::{ReadableSink, Sent, Sink, SinkMeaning};
@@ -34,6 +35,10 @@ impl<'a> SinkMeaning for RecordList<'a> {
     ghost meaning = { λ s. recorded s.lent };
 
     ghost took = { λ s c. record { lent = pushed s.lent c } };
+
+    ghost kept = { λ s c. refl };
+
+    ghost grows = { λ s c. recorded_grows s.lent c };
 }
 
 impl<'a> Sink for RecordList<'a> {
