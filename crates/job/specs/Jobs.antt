@@ -1,6 +1,6 @@
 -- What a job holds, and what an item adds to it.
 use Rattle.std.specs.Prelude.{ℕ, Bool, true, cond, ◌&&◌, List, [], ◌∷◌, length, Ok, Err, Result, nat_lt, Float}
-use Rattle.std.specs.Borrow.{Bor}
+use denote.Ref.{MutBor}
 use Rattle.lent.specs.declared.Lent.{Lent}
 use Rattle.lent.specs.Lists.{items, empty, room, pushed}
 use Rattle.path.specs.declared.command.Command.{Command}
@@ -13,7 +13,7 @@ use Rattle.codec.specs.declared.item.Item.TheVariants.{Width, Join, MiterLimit, 
 use Rattle.job.specs.declared.whole.Job.{Job}
 
 -- before anything is read
-abbrev pub empty_job : Bor (List Command) → Bor (List Float) → Job
+abbrev pub empty_job : MutBor (List Command) → MutBor (List Float) → Job
 empty_job commands dashes = record { style = plain; commands = empty commands; dashes = empty dashes }
 
 -- what an item says of a style; the later one wins

@@ -3,7 +3,6 @@ use Rattle.std.specs.Prelude.{ℕ, ◌/◌, ◌%◌, true, List, [], ◌∷◌, 
 use Rattle.std.specs.Float.{binary32}
 use Rattle.std.specs.Fmt.{digit_glyph}
 use Rattle.path.specs.declared.command.Command.{Command}
-use Rattle.path.specs.declared.refusal.Refusal.{Refusal}
 use Rattle.path.specs.Refusals.{number_of}
 use Rattle.codec.specs.declared.item.Item.{Item}
 use Rattle.codec.specs.declared.item.Item.TheVariants as item

@@ -1,4 +1,6 @@
 //! Prints what a job holds: its style, its dashes, its path, and how many of each.
+#![tactic(auto)]
+
 ghost use Rattle.std.specs.Prelude.{◌≤◌, length, IfOk};
 
 use job::whole::Job;

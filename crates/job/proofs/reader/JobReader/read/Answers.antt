@@ -22,8 +22,8 @@ returns c =
 
 pub returns-in_err-step : goal.returns-in_err-step
 returns-in_err-step c =
-    let x = err_from_is_err_and c.from-residual.result c.from-residual.ensures.1 in
-    let o : Outcome (Unit {0}) = record { answer = c.from-residual.result; reader = c.step.new.self; job = c.step.new.job } in
+    let x = err_from_is_err_and c.from_residual.result c.from_residual.ensures.1 in
+    let o : Outcome (Unit {0}) = record { answer = c.from_residual.result; reader = c.step.new.self; job = c.step.new.job } in
     let e = ap (λ a. record { answer = a; reader = c.step.new.self; job = c.step.new.job }) (x.1 ∙ ap Err x.2)
     ∙ refused c.loop.self c.loop.job _ c.loop.invariant c.in_err-step.ensures in
     record { whole = e; spelled = stores_spelled c.args.self.now c.args.job.now o e }
