@@ -1,11 +1,10 @@
 -- What is still to be given, and the part of it that steps give.
-use Rattle.std.proofs.Common.{◌≡◌, ℕ, zero, suc, ◌+◌, ◌<◌, ◌≤◌, Bool, true, false, cond, List, [], ◌∷◌, ◌++◌, map, length, drop, is_some, Some, None, Option, sym, refl, ap, ◌∙◌, ⊎_elim, append_assoc, arith, drop-drop}
+use Rattle.std.proofs.Common.{◌≡◌, ℕ, zero, suc, ◌+◌, ◌<◌, ◌≤◌, Bool, true, false, List, [], ◌∷◌, ◌++◌, map, drop, is_some, Some, None, Option, sym, refl, ap, ◌∙◌, ⊎_elim, append_assoc, arith, drop-drop}
 use Rattle.std.proofs.lemmas.Bool.{cases_Bool}
 use Rattle.std.specs.Option.{option_to_list}
 use lib.Ieee.{Float}
 use Rattle.maths.specs.Functions.{Functions}
 use Rattle.maths.specs.declared.host.Function.{Function}
-use Rattle.maths.specs.Questions.{Question}
 use Rattle.path.specs.declared.command.Command.{Command}
 use Rattle.curves.specs.declared.curve.Curve.{Curve}
 use Rattle.segments.specs.declared.mark.SegmentId.{SegmentId}
@@ -13,7 +12,7 @@ use Rattle.segments.specs.declared.segment.Segment.{Segment}
 use Rattle.segments.specs.Pieces.{to_segment}
 use Rattle.cursor.specs.declared.subpath.Subpath.{Subpath}
 use Rattle.cursor.specs.Machines.{Machine, machine, Step, Done, done, turn, quietly, step, read, read_questions, waits}
-use Rattle.cursor.specs.Giving.{left, followed, until_given, steps, next_of}
+use Rattle.cursor.specs.Giving.{left, until_given, steps, next_of}
 use Rattle.cursor.specs.Drawings.{Event, asks, gives, pieces_given, pieces_drawn, waiting, rested, drawing, still}
 use Rattle.cursor.specs.Laws.{GivesHead}
 use Rattle.cursor.proofs.Going.{falls, idle_at}

@@ -1,5 +1,5 @@
 -- Steps go on to an end: what can still be taken falls with each.
-use Rattle.std.proofs.Common.{◌≡◌, ℕ, zero, suc, ◌+◌, ◌-◌, ◌<◌, ◌≤◌, Bool, true, false, cond, List, [], ◌∷◌, ◌++◌, length, drop, is_some, Some, None, Option, sym, refl, ap, ◌∙◌, add-zero, add_assoc, sub-one, arith, drop-drop}
+use Rattle.std.proofs.Common.{◌≡◌, ℕ, zero, suc, ◌+◌, ◌-◌, ◌<◌, ◌≤◌, Bool, true, false, cond, List, [], ◌∷◌, length, drop, is_some, Some, None, Option, sym, refl, ap, ◌∙◌, add-zero, add_assoc, sub-one, arith, drop-drop}
 use lib.Ieee.{Float}
 use Rattle.maths.specs.Functions.{Functions}
 use Rattle.maths.specs.Questions.{all_asked}
@@ -17,7 +17,7 @@ use Rattle.segments.specs.declared.mark.SegmentId.{SegmentId}
 use Rattle.segments.specs.declared.segment.Segment.{Segment}
 use Rattle.cursor.specs.declared.subpath.Subpath.{Subpath}
 use Rattle.cursor.specs.Subpaths.{needs_line}
-use Rattle.cursor.specs.Machines.{Machine, machine, Turn, turn, Step, Done, done, quietly, cut_to, whole, curved, read, step, step_at, waits}
+use Rattle.cursor.specs.Machines.{Machine, machine, Turn, turn, Step, Done, done, quietly, cut_to, whole, curved, read, step, waits}
 use Rattle.cursor.specs.Giving.{left, followed, until_given, steps}
 
 -- pieces and an end to come

@@ -7,7 +7,7 @@ use Rattle.maths.specs.declared.host.Function.{Function}
 use Rattle.path.specs.declared.command.Command.{Command}
 use Rattle.curves.specs.declared.curve.Curve.{Curve}
 use Rattle.segments.specs.declared.segment.Segment.{Segment}
-use Rattle.cursor.specs.Machines.{Machine, Step, Done, turn, done, quietly, step, step_at, piece, read, read_questions}
+use Rattle.cursor.specs.Machines.{Machine, Step, turn, done, quietly, step, step_at, piece, read, read_questions}
 
 pub at_piece : (F : Functions) (m : Machine) (k : Curve) (ks : List Curve) (cs : List Command) → m.closing ≡ false → m.pending ≡ k ∷ ks
     → step F m cs ≡ quietly (piece m k ks)

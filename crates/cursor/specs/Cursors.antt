@@ -1,11 +1,11 @@
 -- What a cursor means.
-use Rattle.std.specs.Prelude.{Bool, true, false, List, [], drop}
+use Rattle.std.specs.Prelude.{Bool, false, List, [], drop}
 use Rattle.numbers.specs.Arithmetic.{zero}
 use Rattle.path.specs.declared.command.Command.{Command}
 use Rattle.path.specs.Vectors.{vector}
 use Rattle.pieces.specs.Lists.{curves}
 use Rattle.segments.specs.Marks.{marked}
-use Rattle.cursor.specs.declared.segments.Segments.{Segments}
+use Rattle.cursor.specs.declared.cursor.Segments.{Segments}
 use Rattle.cursor.specs.Subpaths.{begun}
 use Rattle.cursor.specs.Machines.{Machine, machine}
 

@@ -1,5 +1,5 @@
 -- What a cursor gives next: it takes steps until one gives something, or until nothing is to come.
-use Rattle.std.specs.Prelude.{ℕ, zero, suc, ◌+◌, ◌*◌, cond, List, [], ◌∷◌, ◌++◌, length, drop, Some, None, Option}
+use Rattle.std.specs.Prelude.{ℕ, zero, suc, ◌+◌, ◌*◌, cond, List, ◌++◌, length, drop, Some, None, Option}
 use Rattle.maths.specs.Functions.{Functions}
 use Rattle.path.specs.declared.command.Command.{Command}
 use Rattle.segments.specs.declared.segment.Segment.{Segment}

@@ -1,5 +1,5 @@
 -- The machine that reads commands and gives segments.
-use Rattle.std.specs.Prelude.{ℕ, ◌+◌, Bool, true, false, cond, ◌||◌, List, [], ◌∷◌, ◌++◌, is_some, Some, None, Option, Float}
+use Rattle.std.specs.Prelude.{ℕ, ◌+◌, Bool, true, false, cond, ◌||◌, List, [], ◌∷◌, is_some, Some, None, Option, Float}
 use Rattle.maths.specs.Functions.{Functions}
 use Rattle.maths.specs.declared.host.Function.{Function}
 use Rattle.maths.specs.Questions.{Question, all_asked}

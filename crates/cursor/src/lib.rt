@@ -1,3 +1,5 @@
 //! The cursor over a path: commands in, segments and ends out, one at a time.
-pub mod segments;
+#![tactic(auto)]
+
+pub mod cursor;
 mod subpath;

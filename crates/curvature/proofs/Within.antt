@@ -1,14 +1,13 @@
 -- Roots lie from 0 to 1, or are NaN.
-use Rattle.std.proofs.Common.{◌≡◌, Bool, true, false, cond, not, ◌&&◌, ◌||◌, T, List, [], ◌∷◌, refl, arith}
-use lib.Ieee.{Float, nan, of_bits, lt, le, eq, is_nan}
-use Rattle.std.proofs.lemmas.Bool.{cond_both, cases_Bool}
+use Rattle.std.proofs.Common.{◌≡◌, Bool, true, false, cond, not, ◌&&◌, ◌||◌, T, arith}
+use lib.Ieee.{Float, of_bits, lt, le, eq, is_nan}
+use Rattle.std.proofs.lemmas.Bool.{cond_both}
 use Rattle.numbers.specs.Arithmetic.{zero, one}
 use Rattle.numbers.proofs.Orders.{at_most}
 use Rattle.maths.specs.Functions.{Functions}
 use Rattle.curvature.specs.declared.roots.Reduced.{Reduced}
-use Rattle.curvature.specs.declared.roots.Roots.{Roots}
 use Rattle.curvature.specs.Ranges.{Within, RootsWithin}
-use Rattle.curvature.specs.Roots.{saturated, single, pair, swapped, sorted, distinct3, turned, trisected, only_root, has_three_roots, roots_of, from_power, power_asked, cosine_asked, turn}
+use Rattle.curvature.specs.Roots.{saturated, single, pair, swapped, distinct3, trisected, only_root, has_three_roots, roots_of}
 
 by_nan : (n : Bool) (p q : Bool) → (T (not n) → p ≡ true) → (T (not n) → q ≡ true) → T (n || (p && q))
 by_nan true p q h k = tt

@@ -1,5 +1,5 @@
 -- The real roots of a cubic, each kept within 0 and 1.
-use Rattle.std.specs.Prelude.{ℕ, Bool, false, cond, ◌&&◌, ◌||◌, List, [], ◌∷◌, get_or, from_bits, is_nan, slice_index_or, Float}
+use Rattle.std.specs.Prelude.{Bool, false, cond, List, [], ◌∷◌, get_or, from_bits, is_nan, slice_index_or, Float}
 use Rattle.std.specs.Float.Ieee.{neg, lt, eq, ne}
 use Rattle.std.specs.Float.{float_with_sign, nan, binary32}
 use Rattle.numbers.specs.Arithmetic.{◌⊕◌, ◌⊖◌, ◌⊗◌, ◌⊘◌, root, zero, one}

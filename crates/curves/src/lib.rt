@@ -1,3 +1,5 @@
 //! Lines and cubic curves: their arithmetic, step by step in f32.
+#![tactic(auto)]
+
 pub mod curve;
 pub mod line;

@@ -2,7 +2,7 @@ ghost use Rattle.std.specs.Prelude.{◌≡◌, IfOk};
 ghost use Rattle.maths.specs.Tables.{tabled};
 ghost use Rattle.cursor.specs.Drawings.{drawn_whole, given_by};
 
-use cursor::segments::Segments;
+use cursor::cursor::Segments;
 use maths::table::{Row, TableHost};
 use path::command::Command;
 use segments::segment::Segment;

@@ -1,5 +1,7 @@
 //! Reads drawings, each with the answers of a maths host, and prints what a cursor gives for them.
 //! At a damaged drawing or a refused path it prints a line that says so, and ends.
+#![tactic(auto)]
+
 use crate::drawing::first_drawing;
 use crate::given::segments_of;
 use crate::shown::Shown;

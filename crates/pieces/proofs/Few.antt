@@ -1,14 +1,14 @@
 -- A curve has at most three roots, four pieces between them, and sixteen after the halving.
-use Rattle.std.proofs.Common.{◌≡◌, ℕ, ◌≤◌, Bool, true, false, cond, List, [], ◌∷◌, length, get_or, take, refl, arith, length-take}
+use Rattle.std.proofs.Common.{◌≡◌, ◌≤◌, Bool, true, false, cond, List, [], ◌∷◌, length, take, refl, arith, length-take}
 use lib.Ieee.{Float, eq, is_nan}
 use Rattle.numbers.specs.Arithmetic.{zero}
 use Rattle.maths.specs.Functions.{Functions}
 use Rattle.curves.specs.declared.curve.Curve.{Curve}
 use Rattle.curves.specs.Curves.{two_legs_near, merge_epsilon}
 use Rattle.curvature.specs.declared.roots.Roots.{Roots}
-use Rattle.curvature.specs.Roots.{single, pair, distinct3, has_three_roots, trisected, only_root, reduced}
+use Rattle.curvature.specs.Roots.{distinct3, has_three_roots, trisected, only_root, reduced}
 use Rattle.curvature.specs.Bends.{bend, bends}
-use Rattle.pieces.specs.Cuts.{inside, all_inside, cuts, slices, between, between_cuts, all_halved, cut_up}
+use Rattle.pieces.specs.Cuts.{inside, all_inside, cuts, between, between_cuts, cut_up}
 use Rattle.pieces.proofs.Halving.{all_halved_long}
 use Rattle.pieces.proofs.Slicing.{slices_long}
 

@@ -1,5 +1,5 @@
 -- Pieces and their halves.
-use Rattle.std.proofs.Common.{◌≡◌, ℕ, zero as zeroⁿ, suc, ◌+◌, ◌*◌, ◌<◌, ◌≤◌, Bool, true, false, cond, List, [], ◌∷◌, ◌++◌, length, take, Some, None, sym, refl, ap, ◌∙◌, append_assoc, append-nil, add-one, arith, length-append}
+use Rattle.std.proofs.Common.{◌≡◌, ℕ, zero as zeroⁿ, suc, ◌+◌, ◌*◌, ◌≤◌, Bool, true, false, cond, List, [], ◌∷◌, ◌++◌, length, take, Some, sym, ap, ◌∙◌, append_assoc, append-nil, add-one, arith, length-append}
 use Rattle.std.specs.List.{slice_get}
 use Rattle.curves.specs.declared.curve.Curve.{Curve}
 use Rattle.curves.specs.Curves.{slice_of, half, needs_split}

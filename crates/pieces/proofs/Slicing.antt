@@ -1,5 +1,5 @@
 -- Slices between cuts.
-use Rattle.std.proofs.Common.{◌≡◌, ℕ, suc, ◌+◌, ◌<◌, ◌≤◌, Bool, true, false, cond, ◌&&◌, ◌⊎◌, List, [], ◌∷◌, ◌++◌, length, get_or, take, drop, sym, refl, ap, ◌∙◌, inl, inr, append_assoc, add-one, arith, length-append, drop_of_length-le, length-take, drop-cons, get_or-take}
+use Rattle.std.proofs.Common.{◌≡◌, ℕ, suc, ◌+◌, ◌<◌, ◌≤◌, true, false, ◌⊎◌, List, [], ◌∷◌, ◌++◌, length, get_or, take, drop, sym, refl, ap, ◌∙◌, inl, inr, append_assoc, add-one, arith, length-append, drop_of_length-le, length-take, drop-cons, get_or-take}
 use lib.Ieee.{Float}
 use Rattle.std.proofs.lemmas.Bool.{cond-true, cond-false}
 use Rattle.numbers.specs.Arithmetic.{zero, one}

@@ -1,5 +1,5 @@
 -- Segments: lines, curves and ends.
-use Rattle.std.specs.Prelude.{Bool, cond, Some, None, Option, from_bits, Float}
+use Rattle.std.specs.Prelude.{cond, Some, None, Option, from_bits, Float}
 use Rattle.std.specs.Float.{binary32}
 use Rattle.numbers.specs.Arithmetic.{◌⊕◌, ◌⊖◌, zero}
 use Rattle.path.specs.declared.geometry.Vector.{Vector}

@@ -1,8 +1,7 @@
 use Rattle.std.proofs.Common.{◌≡◌, [], ◌∷◌, ap, ◌∙◌}
 use lib.Ieee.{Float}
 use Rattle.maths.specs.Functions.{Functions}
-use Rattle.numbers.specs.Arithmetic.{◌⊕◌, ◌⊖◌, ◌⊘◌}
-use Rattle.curves.specs.Curves.{three}
+use Rattle.numbers.specs.Arithmetic.{◌⊕◌, ◌⊖◌}
 use Rattle.maths.specs.declared.host.Function.TheVariants.{Cosine, ArcCosine}
 use Rattle.curvature.specs.Roots.{turned, turn, cosine_asked, distinct, sorted}
 use Rattle.curvature.proofs.roots.three_roots.Goals as goal

@@ -1,4 +1,4 @@
-use Rattle.std.proofs.Common.{◌≡◌, ◌*◌, ◌≤◌, length, take}
+use Rattle.std.proofs.Common.{◌≡◌, take}
 use Rattle.pieces.specs.Lists.{curves}
 use Rattle.pieces.specs.Cuts.{all_halved}
 use Rattle.pieces.proofs.cuts.halve_all.Given as goal

@@ -1,6 +1,6 @@
 use Rattle.cursor.specs.Cursors.{seen}
 use Rattle.cursor.proofs.Drawn.{gives_head}
-use Rattle.cursor.proofs.segments.Segments.next.Goals as goal
+use Rattle.cursor.proofs.cursor.Segments.next.Goals as goal
 
 pub returns : goal.returns
 returns g c =

@@ -1,10 +1,10 @@
-use Rattle.std.proofs.Common.{◌≡◌, ◌-◌, sym, refl, ap, ◌∙◌, arith}
+use Rattle.std.proofs.Common.{◌-◌, sym, refl, ap, ◌∙◌, arith}
 use Rattle.maths.specs.Functions.{Functions}
 use Rattle.maths.proofs.Asking.{asked_same}
 use Rattle.cursor.specs.Cursors.{seen, rest}
 use Rattle.cursor.specs.Machines.{Done, done, step}
 use Rattle.cursor.proofs.Going.{ends_idle, ends_given, goes_on, falls_done}
-use Rattle.cursor.proofs.segments.Segments.advance.Goals as goal
+use Rattle.cursor.proofs.cursor.Segments.advance.Goals as goal
 
 pub loop-self-init : goal.loop-self-init
 loop-self-init g c = (refl, (_, omega arith, refl))

@@ -6,7 +6,7 @@ ghost use Rattle.cursor.specs.Giving.{next_of};
 ghost use Rattle.cursor.specs.Laws.{GivesHead, LawfulDrawing};
 ghost use Rattle.cursor.specs.Machines.{done, step, waits};
 
-use crate::segments::Segments;
+use crate::cursor::Segments;
 use crate::subpath::Subpath;
 use curves::curve::Curve;
 use lent::element;

@@ -2,7 +2,7 @@ use Rattle.std.proofs.Common.{◌≡◌, ℕ, ◌≤◌}
 use Rattle.cursor.specs.Cursors.{seen, rest}
 use Rattle.cursor.specs.Giving.{left, steps, next_of}
 use Rattle.cursor.specs.Machines.{done}
-use Rattle.cursor.proofs.segments.Segments.advance.Given as goal
+use Rattle.cursor.proofs.cursor.Segments.advance.Given as goal
 
 -- with some steps to go, enough of them, what is done from here is what is done from the start; the host's functions stay
 abbrev pub invariant-loop-self : goal.invariant-loop-self

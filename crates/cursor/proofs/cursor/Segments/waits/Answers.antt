@@ -1,7 +1,7 @@
 use Rattle.std.proofs.Common.{◌||◌, is_some, ap, ◌∙◌}
 use Rattle.pieces.specs.Lists.{curves}
 use Rattle.cursor.proofs.Lists.{any_left, any_there}
-use Rattle.cursor.proofs.segments.Segments.waits.Goals as goal
+use Rattle.cursor.proofs.cursor.Segments.waits.Goals as goal
 
 pub returns : goal.returns
 returns c =

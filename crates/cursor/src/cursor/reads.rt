@@ -4,7 +4,7 @@ ghost use Rattle.pieces.specs.Lists.{curves};
 ghost use Rattle.cursor.specs.Cursors.{seen};
 ghost use Rattle.cursor.specs.Machines.{turn, mark_read, mark_given, moved, lined, cut_to, whole, curved, curve_questions, closed, piece, ended};
 
-use crate::segments::Segments;
+use crate::cursor::Segments;
 use crate::subpath::Subpath;
 use curves::curve::{Curve, MERGE_EPSILON};
 use curves::line::Line;

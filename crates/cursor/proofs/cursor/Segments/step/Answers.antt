@@ -1,4 +1,4 @@
-use Rattle.std.proofs.Common.{◌≡◌, Some, None, sym, refl, ap, ◌∙◌, add-zero, arith, length-take}
+use Rattle.std.proofs.Common.{◌≡◌, Some, sym, refl, ap, ◌∙◌, add-zero, arith, length-take}
 use Rattle.std.specs.List.{slice_get}
 use Rattle.maths.specs.Questions.{all_asked}
 use Rattle.curves.specs.Curves.{curve, from_quadratic}
@@ -8,7 +8,7 @@ use Rattle.cursor.specs.Cursors.{seen}
 use Rattle.cursor.specs.Machines.{turn, moved, lined, curved, curve_questions, closed}
 use Rattle.cursor.proofs.Lists.{left_some, left_none, within}
 use Rattle.cursor.proofs.Steps.{at_piece, at_command, at_end, did}
-use Rattle.cursor.proofs.segments.Segments.step.Goals as goal
+use Rattle.cursor.proofs.cursor.Segments.step.Goals as goal
 
 pub overflow_add-self : goal.overflow_add-self
 overflow_add-self g c =
