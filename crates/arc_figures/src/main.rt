@@ -1,6 +1,8 @@
 //! Reads arcs. Those with the answers of a maths host are drawn by it, and their curves are printed.
 //! Those with places are drawn by the series host and compared with the places, and what came
 //! of them is printed at the end. At a damaged record a line says so, and nothing follows.
+#![tactic(auto)]
+
 ghost use Rattle.std.specs.Prelude.{◌≡◌, true};
 ghost use Rattle.maths.specs.Series.{series};
 ghost use Rattle.maths.specs.Tables.{tabled};
@@ -11,7 +13,7 @@ use crate::compared::compare;
 use crate::record::{Record, first_record};
 use crate::summary::{BEYOND, Summary, flag_name};
 use arcs::arc_to::ArcTo;
-use arcs::curves::arc_curves;
+use arcs::ellipse::arc_curves;
 use arcs::few::Few;
 use codec::item::Item;
 use distances::rows::decoded;

@@ -3,11 +3,11 @@ use Rattle.std.proofs.Common.{◌≡◌, ℕ, zero, suc, ◌+◌, ◌-◌, ◌<�
 use lib.Ieee.{Float}
 use Rattle.numbers.specs.Arithmetic.{◌⊕◌}
 use Rattle.maths.specs.Functions.{Functions}
-use Rattle.maths.specs.Questions.{Question, all_asked}
+use Rattle.maths.specs.Questions.{all_asked}
 use Rattle.maths.specs.declared.host.Function.{Function}
 use Rattle.maths.proofs.Asking.{asked_append}
 use Rattle.path.specs.declared.command.Command.{Command}
-use Rattle.arcs.specs.declared.curves.Ellipse.{Ellipse}
+use Rattle.arcs.specs.declared.ellipse.Ellipse.{Ellipse}
 use Rattle.arcs.specs.Curves.{curve_at, curve_questions, all_curves, all_questions}
 
 one_less : (n i : ℕ) → i < n → n - i ≡ suc (n - (i + 1))

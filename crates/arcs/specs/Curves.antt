@@ -14,7 +14,7 @@ use Rattle.arcs.specs.declared.arc_to.ArcTo.{ArcTo}
 use Rattle.arcs.specs.declared.centre.Turned.{Turned}
 use Rattle.arcs.specs.declared.centre.Centred.{Centred}
 use Rattle.arcs.specs.declared.sweep.Sweep.{Sweep}
-use Rattle.arcs.specs.declared.curves.Ellipse.{Ellipse}
+use Rattle.arcs.specs.declared.ellipse.Ellipse.{Ellipse}
 use Rattle.arcs.specs.Centres.{half_chord, centred}
 use Rattle.arcs.specs.Sweeps.{sweep_of, sweep_questions}
 

@@ -1,5 +1,5 @@
 -- The angles of an arc.
-use Rattle.std.specs.Prelude.{ℕ, Bool, cond, List, [], ◌∷◌, from_bits, Float}
+use Rattle.std.specs.Prelude.{ℕ, cond, List, [], ◌∷◌, from_bits, Float}
 use Rattle.std.specs.Float.Ieee.{neg, lt, le, eq}
 use Rattle.std.specs.Float as Floats
 use Rattle.std.specs.Float.{float_max, binary32}

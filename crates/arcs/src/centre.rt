@@ -1,4 +1,5 @@
 ghost use Rattle.std.specs.Prelude.{◌≡◌};
+ghost use Rattle.std.specs.Float.{float_max};
 ghost use Rattle.arcs.specs.Centres.{half_chord, factor, largest, scale_of, lambda, grown, same_flags, distance_root, signed_root, centre_along, placed_centre, centred_by, centred};
 
 use crate::arc_to::{ArcSize, ArcSweep, ArcTo};
@@ -51,13 +52,18 @@ fn factor(length: f32) -> f32
     }
 }
 
+// The larger of two numbers: where they are equal the first, where one is NaN the other.
+pub(crate) fn larger(a: f32, b: f32) -> f32
+    ensures { result ≡ float_max a b }
+{
+    if (b <= a) | b.is_nan() { a } else { b }
+}
+
 fn largest(arc: ArcTo, half: Vector) -> f32
     ensures { result ≡ largest arc half }
 {
-    half.x
-        .abs()
-        .max(half.y.abs())
-        .max(arc.rx.abs().max(arc.ry.abs()))
+    let along = larger(half.x.abs(), half.y.abs());
+    larger(along, larger(arc.rx.abs(), arc.ry.abs()))
 }
 
 // What all lengths are multiplied by before their fourth powers are formed.

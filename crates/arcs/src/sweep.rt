@@ -4,7 +4,7 @@ ghost use Rattle.maths.specs.Questions.{all_asked};
 ghost use Rattle.arcs.specs.Sweeps.{cosine_between, sign_between, angle_between, turn_by, turned_by, ratio_of, curves_needed, count_of, bulge_of, bulge_questions, turn_of, sweep_of, sweep_questions};
 
 use crate::arc_to::{ArcSize, ArcSweep, ArcTo};
-use crate::centre::Centred;
+use crate::centre::{Centred, larger};
 use maths::host::{MathsHost, MathsMeaning};
 use numbers::{ceil, clamp};
 use path::geometry::Vector;
@@ -87,7 +87,7 @@ fn ratio(turn: f32) -> f32
 fn curves_needed(turn: f32) -> f32
     ensures { result ≡ curves_needed turn }
 {
-    ceil(ratio(turn)).max(1.0)
+    larger(ceil(ratio(turn)), 1.0)
 }
 
 fn count_of(needed: f32) -> usize

@@ -1,4 +1,6 @@
 //! The commands of joins and caps.
+#![tactic(auto)]
+
 pub mod caps;
 pub mod joins;
 mod round;

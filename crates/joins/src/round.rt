@@ -4,7 +4,7 @@ ghost use Rattle.arcs.specs.Lists.{commands};
 ghost use Rattle.joins.specs.Joins.{half_circle, round_commands, round_questions};
 
 use arcs::arc_to::{ArcSize, ArcSweep, ArcTo};
-use arcs::curves::arc_curves;
+use arcs::ellipse::arc_curves;
 use arcs::few::Few;
 use maths::host::{MathsHost, MathsMeaning};
 use path::geometry::Point;

@@ -1,7 +1,7 @@
 -- Half of what is at least 0.01 is at least half of 0.01.
 use Rattle.std.proofs.Common.{true, false, T}
 use lib.Ieee.{Float, nan, inf, fin, binary32, of_bits, mul, le}
-use lib.Ieee.Positive.{above, positive, above_of_le, mul_mono}
+use lib.Ieee.Positive.{positive, above_of_le, mul_mono}
 use Rattle.numbers.specs.Arithmetic.{◌⊗◌}
 use Rattle.curves.specs.Curves.{half}
 use Rattle.pen.specs.Nibs.{least_width, least_radius}

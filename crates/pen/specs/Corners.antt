@@ -22,8 +22,8 @@ abbrev pub miter_corner : Nib → Vector → Vector → Corner
 miter_corner nib n m = cond (lt (dot_product n m) zero) NegativeDot (cond (lt (half_turn_sine n m) nib.inv_miter_limit) PastLimit Miter)
 
 abbrev pub by_join : Join → Corner → Corner
-by_join BevelJoin mitered = Bevel
-by_join RoundJoin mitered = Round
+by_join BevelJoin _ = Bevel
+by_join RoundJoin _ = Round
 by_join MiterJoin mitered = mitered
 
 abbrev pub corner_of : Nib → Vector → Vector → Vector → Vector → Corner

@@ -1,5 +1,5 @@
 -- A segment moved sideways by the radius.
-use Rattle.std.specs.Prelude.{Bool, cond, not, from_bits, Float}
+use Rattle.std.specs.Prelude.{Bool, cond, from_bits, Float}
 use Rattle.std.specs.Float.{binary32}
 use Rattle.numbers.specs.Arithmetic.{◌⊕◌, ◌⊗◌, ◌⊘◌, root, zero, one}
 use Rattle.path.specs.declared.geometry.Vector.{Vector}

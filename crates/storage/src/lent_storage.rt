@@ -1,6 +1,8 @@
 ghost use Rattle.std.specs.Prelude.{◌≡◌};
 ghost use Rattle.lent.specs.Lists.{empty, items, cleared, pushed};
 ghost use Rattle.storage.specs.Places.{place_count};
+ghost use Rattle.storage.specs.PlacesLemmas.{front_grows};
+ghost use Rattle.std.proofs.Common.{refl, length-set};
 
 use crate::storage::{Storage, StorageMeaning, Stored};
 use lent::Lent;
@@ -30,6 +32,14 @@ impl<'a> StorageMeaning for LentStorage<'a> {
     ghost cleared = { λ s. record { lent = cleared s.lent } };
 
     ghost pushed = { λ s x. record { lent = pushed s.lent x } };
+
+    ghost empties = { λ s. refl };
+
+    ghost same_cleared = { λ s. refl };
+
+    ghost grows = { λ s x fits. front_grows s.lent.places.now s.lent.count x fits };
+
+    ghost same_pushed = { λ s x fits. length-set s.lent.places.now s.lent.count x };
 }
 
 impl<'a> Storage for LentStorage<'a> {

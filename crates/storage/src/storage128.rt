@@ -1,7 +1,7 @@
 ghost use Rattle.std.specs.Prelude.{◌≡◌, length};
 ghost use Rattle.storage.specs.Places.{fresh, filled, emptied, extended};
 ghost use Rattle.storage.specs.PlacesLemmas.{front_grows};
-ghost use Rattle.std.proofs.Common.{rules};
+ghost use Rattle.std.proofs.Common.{refl, length-set};
 
 use crate::storage::{Storage, StorageMeaning, Stored};
 use lent::{element, front};
@@ -41,13 +41,13 @@ impl StorageMeaning for Storage128 {
 
     ghost pushed = { extended };
 
-    ghost empties = { Prim.search rules };
+    ghost empties = { λ s. refl };
 
-    ghost same_cleared = { Prim.search rules };
+    ghost same_cleared = { λ s. refl };
 
     ghost grows = { λ s x fits. front_grows s.segments s.count x fits };
 
-    ghost same_pushed = { Prim.search rules };
+    ghost same_pushed = { λ s x fits. length-set s.segments s.count x };
 }
 
 impl Storage for Storage128 {

@@ -1,5 +1,4 @@
 use Rattle.std.proofs.Common.{◌≡◌, ap, ◌∙◌}
-use lib.Ieee.{Float}
 use Rattle.maths.specs.Functions.{Functions}
 use Rattle.maths.specs.Questions.{all_asked}
 use Rattle.maths.specs.declared.host.Function.TheVariants.{ArcCosine}

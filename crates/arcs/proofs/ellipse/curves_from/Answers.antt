@@ -1,11 +1,11 @@
-use Rattle.std.proofs.Common.{◌≡◌, [], ◌∷◌, ◌++◌, length, ap, ◌∙◌, arith, length-append}
+use Rattle.std.proofs.Common.{[], ◌∷◌, ◌++◌, length, ap, ◌∙◌, arith, length-append}
 use Rattle.numbers.specs.Arithmetic.{◌⊕◌}
 use Rattle.maths.specs.Functions.{Functions}
 use Rattle.maths.proofs.Asking.{asked_same}
 use Rattle.arcs.specs.Curves.{curve_at, curve_questions}
 use Rattle.arcs.specs.Lists.{commands}
 use Rattle.arcs.proofs.Round.{curves_more, questions_more, curves_all, questions_all}
-use Rattle.arcs.proofs.curves.curves_from.Goals as goal
+use Rattle.arcs.proofs.ellipse.curves_from.Goals as goal
 
 pub loop-i-preserved : goal.loop-i-preserved
 loop-i-preserved g c =

@@ -3,7 +3,7 @@ use Rattle.maths.specs.Functions.{Functions}
 use Rattle.maths.specs.Questions.{all_asked}
 use Rattle.maths.proofs.Asking.{asked_same}
 use Rattle.arcs.specs.Curves.{round_at, round_questions, curve_between}
-use Rattle.arcs.proofs.curves.Ellipse.curve_at.Goals as goal
+use Rattle.arcs.proofs.ellipse.Ellipse.curve_at.Goals as goal
 
 pub returns : goal.returns
 returns g c =

@@ -1,11 +1,10 @@
 use Rattle.std.proofs.Common.{◌≡◌, length, sym, ap, ◌∙◌, arith}
 use Rattle.maths.specs.Questions.{all_asked}
 use Rattle.maths.proofs.Asking.{asked_append, asked_same}
-use Rattle.arcs.specs.declared.sweep.Sweep.{Sweep}
 use Rattle.arcs.specs.Sweeps.{sweep_of, sweep_questions}
 use Rattle.arcs.specs.Curves.{all_curves, all_questions, ellipse}
 use Rattle.arcs.proofs.Round.{curves_long}
-use Rattle.arcs.proofs.curves.curves_round.Goals as goal
+use Rattle.arcs.proofs.ellipse.curves_round.Goals as goal
 
 pub returns : goal.returns
 returns g c =

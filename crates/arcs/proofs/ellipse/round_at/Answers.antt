@@ -2,7 +2,7 @@ use Rattle.std.proofs.Common.{◌≡◌, ap, ◌∙◌}
 use Rattle.maths.specs.Functions.{Functions}
 use Rattle.maths.specs.declared.host.Function.TheVariants.{Sine, Cosine}
 use Rattle.path.specs.Vectors.{vector}
-use Rattle.arcs.proofs.curves.round_at.Goals as goal
+use Rattle.arcs.proofs.ellipse.round_at.Goals as goal
 
 pub returns : goal.returns
 returns g c =

@@ -2,7 +2,7 @@ use Rattle.std.proofs.Common.{◌≡◌, ◌-◌, ◌≤◌, ◌++◌, length}
 use Rattle.maths.specs.Questions.{all_asked}
 use Rattle.arcs.specs.Curves.{all_curves, all_questions}
 use Rattle.arcs.specs.Lists.{commands}
-use Rattle.arcs.proofs.curves.curves_from.Given as goal
+use Rattle.arcs.proofs.ellipse.curves_from.Given as goal
 
 -- the curves so far with those that are left are all of them, and so with the questions
 abbrev pub invariant-loop-i : goal.invariant-loop-i

@@ -5,7 +5,7 @@ use Rattle.maths.proofs.Asking.{asked_append, asked_same}
 use Rattle.arcs.specs.Centres.{half_chord, centred}
 use Rattle.arcs.specs.Curves.{round_questions, no_chord, turned_of, centred_of, round_curves, round_all_questions, arc_curves, arc_questions, OneToFour}
 use Rattle.arcs.specs.Lists.{commands}
-use Rattle.arcs.proofs.curves.arc_curves.Goals as goal
+use Rattle.arcs.proofs.ellipse.arc_curves.Goals as goal
 
 pub returns-then-has_no_chord : goal.returns-then-has_no_chord
 unfolding arc_curves arc_questions
