@@ -3,7 +3,6 @@ use Rattle.std.proofs.Common.{◌≡◌, ℕ, ◌+◌, ◌<◌, ◌≤◌, Bool,
 use lib.Ieee.{Float}
 use lib.ListN.{length-map}
 use Rattle.std.proofs.lemmas.Bool.{cond_both}
-use Rattle.maths.specs.Functions.{Functions}
 use Rattle.maths.specs.Questions.{Question, all_asked}
 use Rattle.maths.specs.declared.host.Function.{Function}
 use Rattle.path.specs.declared.command.Command.{Command}

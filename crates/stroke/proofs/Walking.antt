@@ -1,5 +1,5 @@
 -- The sides of a run, one after the other.
-use Rattle.std.proofs.Common.{◌≡◌, ℕ, zero, suc, ◌+◌, ◌-◌, ◌<◌, ◌≤◌, Bool, true, false, List, [], ◌∷◌, ◌++◌, map, reverse, length, take, drop, is_err, IfOk, Some, None, Ok, Err, Option, Result, sym, refl, ap, ◌∙◌, append_assoc, add-one, arith, drop_of_length-le}
+use Rattle.std.proofs.Common.{◌≡◌, ℕ, zero, suc, ◌+◌, ◌-◌, ◌<◌, ◌≤◌, true, List, [], ◌∷◌, ◌++◌, map, reverse, length, take, drop, is_err, IfOk, Some, None, Ok, Err, Option, Result, sym, ap, ◌∙◌, append_assoc, add-one, arith, drop_of_length-le}
 use mathlib.Core.List.{reverse-append}
 use lib.Ieee.{Float}
 use Rattle.std.specs.List.{slice_get}

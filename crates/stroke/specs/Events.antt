@@ -1,5 +1,5 @@
 -- What drawing does, event by event, and what comes of it in a sink and a host.
-use Rattle.std.specs.Prelude.{◌≡◌, ℕ, ◌+◌, Bool, true, false, cond, List, [], ◌∷◌, ◌++◌, map, refl, Float}
+use Rattle.std.specs.Prelude.{ℕ, ◌+◌, Bool, true, false, cond, List, [], ◌∷◌, ◌++◌, map, Float}
 use Rattle.maths.specs.declared.host.Function.{Function}
 use Rattle.maths.specs.Questions.{Question}
 use Rattle.path.specs.declared.command.Command.{Command}

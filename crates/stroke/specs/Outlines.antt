@@ -1,5 +1,5 @@
 -- The outline of a run, as events.
-use Rattle.std.specs.Prelude.{ℕ, Bool, cond, List, [], ◌∷◌, ◌++◌, map, reverse, take, drop, ◌==◌, Float}
+use Rattle.std.specs.Prelude.{ℕ, cond, List, [], ◌∷◌, ◌++◌, map, reverse, take, drop, ◌==◌, Float}
 use Rattle.maths.specs.Functions.{Functions}
 use Rattle.path.specs.declared.geometry.Vector.{Vector}
 use Rattle.path.specs.declared.command.Command.{Command}

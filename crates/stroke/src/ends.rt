@@ -2,7 +2,7 @@ ghost use Rattle.std.specs.Prelude.{◌≡◌, ◌+◌, ◌^◌, ◌<◌, true, 
 ghost use Rattle.stroke.specs.Events.{sends, drawing, alone, nobody, play};
 ghost use Rattle.stroke.specs.Outlines.{begin_commands, cross_events, finish_events};
 
-use crate::pieces::{add_cap, emit};
+use crate::parts::{add_cap, emit};
 use crate::sending::{Full, send};
 use maths::host::{MathsHost, MathsMeaning};
 use path::command::Command;

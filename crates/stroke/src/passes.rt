@@ -2,7 +2,7 @@ ghost use Rattle.std.specs.Prelude.{◌≡◌, ◌+◌, ◌^◌, ◌<◌, true, 
 ghost use Rattle.stroke.specs.Events.{sends, drawing, play};
 ghost use Rattle.stroke.specs.Outlines.{turn_between, emitted, join_events, back_events};
 
-use crate::pieces::{add_join, add_split_join, emit, turn_between};
+use crate::parts::{add_join, add_split_join, emit, turn_between};
 use crate::sending::Full;
 use maths::host::{MathsHost, MathsMeaning};
 use pen::nib::Nib;

@@ -12,7 +12,7 @@ returns-in_err-send g c =
     let start = alone c.args.sink.now c.args.sent.now true in
     let moved = sent_one g.S.SinkMeaning.meaning g.S.SinkMeaning.took nobody (MoveTo c.args.o.start) c.args.sink.now tt c.args.sent.now e.sink e.sent e.taken in
     let on = play_on g.S.SinkMeaning.meaning g.S.SinkMeaning.took nobody (sends (MoveTo c.args.o.start) ∷ []) (map sends (emitted c.args.o.segment)) start refl moved (refl, c.requires) in
-    stops g.S.SinkMeaning.meaning g.S.SinkMeaning.took nobody _ c.send.new.sink tt c.send.new.sent c.from-residual.result c.from-residual.ensures.0 on.0
+    stops g.S.SinkMeaning.meaning g.S.SinkMeaning.took nobody _ c.send.new.sink tt c.send.new.sent c.from_residual.result c.from_residual.ensures.0 on.0
 
 pub emit-requires : goal.emit-requires
 emit-requires g c =

@@ -18,7 +18,7 @@ returns-in_err-add_cap g c =
     let on = play_on g.S.SinkMeaning.meaning g.S.SinkMeaning.took g.K.MathsMeaning.asked (end_cap_events F c.args.nib c.args.o c.args.p) (map sends (emitted c.args.p.segment)) start refl e.played (refl, c.requires) in
     record {
       functions = e.functions;
-      played = stops g.S.SinkMeaning.meaning g.S.SinkMeaning.took g.K.MathsMeaning.asked _ c.add_cap.new.sink c.add_cap.new.host c.add_cap.new.sent c.from-residual.result c.from-residual.ensures.0 on.0;
+      played = stops g.S.SinkMeaning.meaning g.S.SinkMeaning.took g.K.MathsMeaning.asked _ c.add_cap.new.sink c.add_cap.new.host c.add_cap.new.sent c.from_residual.result c.from_residual.ensures.0 on.0;
     }
 
 pub emit-requires : goal.emit-requires

@@ -1,4 +1,4 @@
-use Rattle.std.proofs.Common.{◌≡◌, true, List, ◌++◌, map, reverse, take, drop, refl, ap, ◌∙◌}
+use Rattle.std.proofs.Common.{true, List, ◌++◌, map, reverse, take, drop, refl, ap, ◌∙◌}
 use Rattle.maths.specs.Functions.{Functions}
 use Rattle.pen.specs.declared.offset.OffsetSegment.{OffsetSegment}
 use Rattle.stroke.specs.Events.{Event, sends, drawing, play}
@@ -29,7 +29,7 @@ returns-in_err-begin g c =
     let on1 = play_on meaning took asked (map sends (begin_commands o)) (E1 ++ (E2 ++ (E3 ++ E4))) (drawing c.args.sink.now k c.args.sent.now true) refl begun (refl, c.requires.room) in
     record {
       functions = refl;
-      played = stops meaning took asked _ c.begin.new.sink k c.begin.new.sent c.from-residual.result c.from-residual.ensures.0 on1.0;
+      played = stops meaning took asked _ c.begin.new.sink k c.begin.new.sent c.from_residual.result c.from_residual.ensures.0 on1.0;
     }
 
 pub walk_forward-requires : goal.walk_forward-requires
@@ -78,7 +78,7 @@ returns-in_err-end g c =
     let on2 = play_on meaning took asked E1 (E2 ++ (E3 ++ E4)) (drawing c.begin.new.sink k c.begin.new.sent true) refl e2.played on1 in
     record {
       functions = e2.functions;
-      played = stops meaning took asked _ c.walk_forward.new.sink c.walk_forward.new.host c.walk_forward.new.sent c.from-residual-in_err-end.result c.from-residual-in_err-end.ensures.0 on2.0;
+      played = stops meaning took asked _ c.walk_forward.new.sink c.walk_forward.new.host c.walk_forward.new.sent c.from_residual-in_err-end.result c.from_residual-in_err-end.ensures.0 on2.0;
     }
 
 pub cross_end-requires : goal.cross_end-requires
@@ -139,7 +139,7 @@ returns-in_err-cross_end g c =
     let on3 = play_on meaning took asked E2 (E3 ++ E4) d2 refl (e3.played ∙ ap (λ (es : List Event). play meaning took asked es d2) same2) on2 in
     record {
       functions = e3.functions ∙ F2;
-      played = stops meaning took asked _ c.cross_end.new.sink c.cross_end.new.host c.cross_end.new.sent c.from-residual-in_err-cross_end.result c.from-residual-in_err-cross_end.ensures.0 on3.0;
+      played = stops meaning took asked _ c.cross_end.new.sink c.cross_end.new.host c.cross_end.new.sent c.from_residual-in_err-cross_end.result c.from_residual-in_err-cross_end.ensures.0 on3.0;
     }
 
 pub walk_backward-requires : goal.walk_backward-requires
@@ -210,7 +210,7 @@ returns-in_err-back g c =
     let on4 = play_on meaning took asked E3 E4 d3 refl (e4.played ∙ ap (λ (es : List Event). play meaning took asked es d3) same3) on3 in
     record {
       functions = e4.functions ∙ F3;
-      played = stops meaning took asked _ c.walk_backward.new.sink c.walk_backward.new.host c.walk_backward.new.sent c.from-residual-in_err-back.result c.from-residual-in_err-back.ensures.0 on4.0;
+      played = stops meaning took asked _ c.walk_backward.new.sink c.walk_backward.new.host c.walk_backward.new.sent c.from_residual-in_err-back.result c.from_residual-in_err-back.ensures.0 on4.0;
     }
 
 pub finish_open-requires : goal.finish_open-requires

@@ -18,7 +18,7 @@ returns-in_err-join_back g c =
     let on = play_on g.S.SinkMeaning.meaning g.S.SinkMeaning.took g.K.MathsMeaning.asked (back_events F c.args.nib c.args.o c.args.p) (map sends (emitted c.args.p.segment)) start refl e.played (refl, c.requires) in
     record {
       functions = e.functions;
-      played = stops g.S.SinkMeaning.meaning g.S.SinkMeaning.took g.K.MathsMeaning.asked _ c.join_back.new.sink c.join_back.new.host c.join_back.new.sent c.from-residual.result c.from-residual.ensures.0 on.0;
+      played = stops g.S.SinkMeaning.meaning g.S.SinkMeaning.took g.K.MathsMeaning.asked _ c.join_back.new.sink c.join_back.new.host c.join_back.new.sent c.from_residual.result c.from_residual.ensures.0 on.0;
     }
 
 pub emit-requires : goal.emit-requires

@@ -1,4 +1,4 @@
-use Rattle.std.proofs.Common.{◌≡◌, Bool, true, false, ◌++◌, map, refl, ap, ◌∙◌, arith}
+use Rattle.std.proofs.Common.{true, map, refl, ap, ◌∙◌, arith}
 use lib.ListN.{length-map}
 use Rattle.joins.specs.declared.joins.Turn.{Turn}
 use Rattle.stroke.specs.Events.{sends, drawing, play}
@@ -21,7 +21,7 @@ returns-in_err-add_join g c =
     let on = play_on g.S.SinkMeaning.meaning g.S.SinkMeaning.took g.K.MathsMeaning.asked (join_events F c.args.nib (turn_between c.args.o c.args.p)) (map sends (emitted c.args.p.segment)) start refl joined (refl, c.requires) in
     record {
       functions = e.functions;
-      played = stops g.S.SinkMeaning.meaning g.S.SinkMeaning.took g.K.MathsMeaning.asked _ c.add_join.new.sink c.add_join.new.host c.add_join.new.sent c.from-residual.result c.from-residual.ensures.0 on.0;
+      played = stops g.S.SinkMeaning.meaning g.S.SinkMeaning.took g.K.MathsMeaning.asked _ c.add_join.new.sink c.add_join.new.host c.add_join.new.sent c.from_residual.result c.from_residual.ensures.0 on.0;
     }
 
 pub emit-requires : goal.emit-requires

@@ -1,4 +1,4 @@
-use Rattle.std.proofs.Common.{◌≡◌, ◌+◌, Bool, true, false, List, [], ◌∷◌, ◌++◌, map, length, get_or, drop, sym, refl, ap, ◌∙◌, arith}
+use Rattle.std.proofs.Common.{◌+◌, true, List, map, length, drop, sym, refl, ap, ◌∙◌, arith}
 use lib.ListN.{length-map}
 use Rattle.path.specs.declared.command.Command.TheVariants.{Close}
 use Rattle.stroke.specs.Events.{Event, sends, alone, nobody, play}
@@ -19,7 +19,7 @@ returns-in_err-send g c =
     let here = sent_one g.S.SinkMeaning.meaning g.S.SinkMeaning.took nobody _ c.loop-c.sink tt c.loop-c.sent e.sink e.sent e.taken in
     let on = play_on g.S.SinkMeaning.meaning g.S.SinkMeaning.took nobody _ (map sends (drop (c.loop-c.c-index + 1) c.args.commands.now)) (alone c.loop-c.sink c.loop-c.sent true)
     (sends_left c.args.commands.now c.loop-c.c-index _ c.loop-c-test.true) here c.loop-c.invariant in
-    stops g.S.SinkMeaning.meaning g.S.SinkMeaning.took nobody _ c.send.new.sink tt c.send.new.sent c.from-residual.result c.from-residual.ensures.0 on.0
+    stops g.S.SinkMeaning.meaning g.S.SinkMeaning.took nobody _ c.send.new.sink tt c.send.new.sent c.from_residual.result c.from_residual.ensures.0 on.0
 
 pub loop-c-preserved : goal.loop-c-preserved
 loop-c-preserved g c =

@@ -33,8 +33,8 @@ returns-in_err-go_back g c =
     (drawing c.loop-i.sink c.loop-i.host c.loop-i.sent true) split e.played (c.loop-i.invariant.2, c.loop-i.invariant.3) in
     record {
       functions = e.functions ∙ c.loop-i.invariant.0;
-      last = refused_made _ c.from-residual.result c.from-residual.ensures.0;
-      played = stops g.S.SinkMeaning.meaning g.S.SinkMeaning.took g.K.MathsMeaning.asked _ c.go_back.new.sink c.go_back.new.host c.go_back.new.sent c.from-residual.result c.from-residual.ensures.0 on.0;
+      last = refused_made _ c.from_residual.result c.from_residual.ensures.0;
+      played = stops g.S.SinkMeaning.meaning g.S.SinkMeaning.took g.K.MathsMeaning.asked _ c.go_back.new.sink c.go_back.new.host c.go_back.new.sent c.from_residual.result c.from_residual.ensures.0 on.0;
     }
 
 pub loop-i-preserved-in-Some : goal.loop-i-preserved-in-Some

@@ -1,6 +1,5 @@
-use Rattle.std.proofs.Common.{◌≡◌, ◌+◌, ◌<◌, true, List, map, length, drop, sym, refl, ap, ◌∙◌, arith}
-use Rattle.pen.specs.declared.offset.OffsetSegment.{OffsetSegment}
-use Rattle.stroke.specs.Events.{Event, drawing, play}
+use Rattle.std.proofs.Common.{◌+◌, true, map, drop, sym, refl, ap, ◌∙◌, arith}
+use Rattle.stroke.specs.Events.{drawing, play}
 use Rattle.stroke.specs.Outlines.{forward, side, last_side}
 use Rattle.stroke.proofs.Playing.{play_on, stops, part_fits}
 use Rattle.stroke.proofs.Walking.{sides_left, sides_none, one_forward, forward_next, played_none, refused_made, found_none}
@@ -35,8 +34,8 @@ returns-in_err-go_forward g c =
     (drawing c.loop-i.sink c.loop-i.host c.loop-i.sent true) split e.played (c.loop-i.invariant.2, c.loop-i.invariant.3) in
     record {
       functions = e.functions ∙ c.loop-i.invariant.0;
-      last = refused_made _ c.from-residual.result c.from-residual.ensures.0;
-      played = stops g.S.SinkMeaning.meaning g.S.SinkMeaning.took g.K.MathsMeaning.asked _ c.go_forward.new.sink c.go_forward.new.host c.go_forward.new.sent c.from-residual.result c.from-residual.ensures.0 on.0;
+      last = refused_made _ c.from_residual.result c.from_residual.ensures.0;
+      played = stops g.S.SinkMeaning.meaning g.S.SinkMeaning.took g.K.MathsMeaning.asked _ c.go_forward.new.sink c.go_forward.new.host c.go_forward.new.sent c.from_residual.result c.from_residual.ensures.0 on.0;
     }
 
 pub loop-i-preserved : goal.loop-i-preserved

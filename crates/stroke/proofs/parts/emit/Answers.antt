@@ -3,7 +3,7 @@ use Rattle.segments.specs.declared.segment.Segment.{Segment}
 use Rattle.stroke.specs.Events.{sends, alone, nobody, play}
 use Rattle.stroke.specs.Outlines.{emitted}
 use Rattle.stroke.proofs.Playing.{sent_one}
-use Rattle.stroke.proofs.pieces.emit.Goals as goal
+use Rattle.stroke.proofs.parts.emit.Goals as goal
 
 pub returns-in-Line : goal.returns-in-Line
 returns-in-Line g c =

@@ -2,7 +2,7 @@ use Rattle.std.proofs.Common.{ap, ◌∙◌}
 use Rattle.maths.proofs.Asking.{asked_same}
 use Rattle.joins.specs.Joins.{join_commands, join_questions}
 use Rattle.stroke.proofs.Playing.{asked_sent, room_to_send}
-use Rattle.stroke.proofs.pieces.add_join.Goals as goal
+use Rattle.stroke.proofs.parts.add_join.Goals as goal
 
 pub send_all-requires : goal.send_all-requires
 send_all-requires g c =
