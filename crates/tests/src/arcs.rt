@@ -1,5 +1,5 @@
 use arcs::arc_to::{ArcSize, ArcSweep, ArcTo};
-use arcs::curves::arc_curves;
+use arcs::ellipse::arc_curves;
 use maths::series::SeriesHost;
 use path::command::Command;
 use path::geometry::Point;

@@ -1,4 +1,6 @@
 //! What the crates do on examples.
+#![tactic(auto)]
+
 #[cfg(test)]
 mod arcs;
 #[cfg(test)]
