@@ -2,9 +2,9 @@
 #![tactic(auto)]
 
 #[cfg(test)]
-mod arcs;
-#[cfg(test)]
 mod bezier;
+#[cfg(test)]
+mod ellipses;
 #[cfg(test)]
 mod jobs;
 #[cfg(test)]
