@@ -1,5 +1,6 @@
 pub mod Alike
 pub mod Asking
 mod Constants
+mod Remainders
 mod Rows
 mod Specials

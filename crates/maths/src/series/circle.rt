@@ -54,7 +54,21 @@ impl Quarters {
 fn piece(x: f64, part: f64) -> f64
     ensures { result ≡ rem binary64 (x ⊗ part) (wide 0x4010_0000_0000_0000) }
 {
-    x * part % 4.0
+    rest_of_four(x * part)
+}
+
+// `t % 4.0`, which has the sign of `t`, by steps that are exact: a compiler may call C for `%`, by a
+// version of the function that not every C library has.
+fn rest_of_four(t: f64) -> f64
+    ensures { result ≡ rem binary64 t (wide 0x4010_0000_0000_0000) }
+{
+    let size = t.abs();
+    if size < 4.0 {
+        t * 1.0
+    } else {
+        let rest = size - (size * 0.25).trunc() * 4.0;
+        if t < 0.0 { -rest } else { rest }
+    }
 }
 
 // Whole quarters without whole turns: 0, 1, 2 or 3.
