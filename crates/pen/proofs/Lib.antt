@@ -1,2 +1,2 @@
 mod Halves
-mod Widths
+pub mod Widths

@@ -31,11 +31,16 @@ impl Pen {
     }
 }
 
+#[tactic(auto, using(crate::proofs::Widths::least_is_number))]
 fn width_drawn(width: f32) -> f32
     ensures value { result ≡ width_drawn width }
     ensures least { T (le least_width result) }
 {
-    width.max(LEAST_WIDTH)
+    if LEAST_WIDTH <= width {
+        width
+    } else {
+        LEAST_WIDTH
+    }
 }
 
 fn radius(width: f32) -> f32
