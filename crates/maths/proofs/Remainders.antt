@@ -1,6 +1,7 @@
 -- What is left of a number when whole fours are taken from it.
 use Rattle.std.proofs.Common.{◌≡◌, ℕ, zero, suc, ◌+◌, ◌-◌, ◌*◌, ◌/◌, ◌%◌, ◌^◌, ◌<◌, ◌≤◌, Bool, true, false, not, cond, ◌&&◌, T, ltb, leb, eqb, ℤ, pos, negsuc, refl, sym, ap, ◌∙◌, subst, arith, ltb→lt, leb→le, lit≤, lit<, mul_assoc, mul-one, pow-add, pow_pos, pow_mono, mul-lt-mul_of_pos_right, mul-pos, div-one, div-le_self, true≢false, mul-le-mul_left, mul_comm, mul_right_comm, add-mul, div-add-mod', div-mul-le_self, le-div_iff_mul-le, lt_of_mul-lt-mul_right, le-ltb, nltb→le, mod-eq_of_lt, le_trans, le_of_eq, lt_of_lt_of_le, lt_of_le_of_lt, lt_of_not-le}
 use Rattle.std.specs.Float.{trunc, round_with, float_with_sign}
+use Rattle.std.proofs.lemmas.Float.{T_from_true}
 use lib.Ieee.{Float, nan, inf, fin, binary64, up, down, odd, units, round, neg, mul, sub, add, sum, rem, lt, fits, of_bits}
 use lib.Ieee.Exact.{HasValue, round_exact}
 use lib.Ieee.Scale.{round_same}
@@ -228,9 +229,6 @@ zero_is : of_bits binary64 0 ≡ fin false 0 (pos 0)
 unfolding of_bits
 zero_is = refl
 
-holds : {b : Bool} → b ≡ true → T b
-holds e = subst T (sym e) tt
-
 fails : {b : Bool} → b ≡ false → T (not b)
 fails e = subst (λ (x : Bool). T (not x)) (sym e) tt
 
@@ -238,8 +236,8 @@ small : (t : Float) → lt (float_with_sign false t) four ≡ true → mul binar
 unfolding lt mul rem float_with_sign
 small nan h = refl
 small (inf s) h = absurd (true≢false (sym h))
-small (fin true m e) h = ap (λ (x : ℕ). round binary64 true x (down e * 1)) (sym (mod-eq_of_lt (ltb→lt (m * up e * 1) (4 * down e) (holds h))))
-small (fin false m e) h = ap (λ (x : ℕ). round binary64 false x (down e * 1)) (sym (mod-eq_of_lt (ltb→lt (m * up e * 1) (4 * down e) (holds h))))
+small (fin true m e) h = ap (λ (x : ℕ). round binary64 true x (down e * 1)) (sym (mod-eq_of_lt (ltb→lt (m * up e * 1) (4 * down e) (T_from_true _ h))))
+small (fin false m e) h = ap (λ (x : ℕ). round binary64 false x (down e * 1)) (sym (mod-eq_of_lt (ltb→lt (m * up e * 1) (4 * down e) (T_from_true _ h))))
 
 fits_without : (s : Bool) (m : ℕ) (e : ℤ) → T (fits binary64 (fin s m e)) → T (fits binary64 (fin false m e))
 unfolding fits
@@ -249,19 +247,19 @@ fits_without s (suc m) e f = f
 past_four : (m : ℕ) (e : ℤ) → ltb (m * up e * 1) (4 * down e) ≡ false → 4 * down e ≤ m * up e
 past_four m e h = let past : 4 * down e ≤ m * up e * 1 = nltb→le (m * up e * 1) (4 * down e) (fails h) in omega arith
 
-big : (t : Float) → T (fits binary64 t) → lt (float_with_sign false t) four ≡ false
+large_size : (t : Float) → T (fits binary64 t) → lt (float_with_sign false t) four ≡ false
     → sub binary64 (float_with_sign false t) (mul binary64 (trunc binary64 (mul binary64 (float_with_sign false t) quarter)) four) ≡ rem binary64 (float_with_sign false t) four
 unfolding lt mul rem sub add neg round_with float_with_sign
-big nan f h = refl
-big (inf s) f h = refl
-big (fin s m e) f h = large m e (fits_without s m e f) (past_four m e h)
+large_size nan f h = refl
+large_size (inf s) f h = refl
+large_size (fin s m e) f h = large m e (fits_without s m e f) (past_four m e h)
 
 below_zero : (t : Float) → lt t (fin false 0 (pos 0)) ≡ true → neg (rem binary64 (float_with_sign false t) four) ≡ rem binary64 t four
 unfolding lt rem neg float_with_sign
 below_zero nan h = refl
 below_zero (inf s) h = refl
 below_zero (fin true m e) h = round_neg false (m * up e * 1 % (4 * down e)) (down e * 1)
-below_zero (fin false m e) h = absurd (let less : m * up e * 1 < 0 * down e = ltb→lt (m * up e * 1) (0 * down e) (holds h) in omega arith)
+below_zero (fin false m e) h = absurd (let less : m * up e * 1 < 0 * down e = ltb→lt (m * up e * 1) (0 * down e) (T_from_true _ h) in omega arith)
 
 above_zero : (t : Float) → lt (float_with_sign false t) four ≡ false → lt t (fin false 0 (pos 0)) ≡ false → rem binary64 (float_with_sign false t) four ≡ rem binary64 t four
 unfolding lt rem float_with_sign
@@ -286,7 +284,7 @@ rest_of_size : (t a w : Float) → fits binary64 t ≡ true → a ≡ float_with
 rest_of_size t a w f is part h =
     ap (λ (x : Float). sub binary64 a (mul binary64 x four)) (part ∙ ap (λ (x : Float). trunc binary64 (mul binary64 a x)) quarter_is)
     ∙ ap (λ (x : Float). sub binary64 x (mul binary64 (trunc binary64 (mul binary64 x quarter)) four)) is
-    ∙ big t (holds f) (subst (λ (x : Float). lt x four ≡ false) is h)
+    ∙ large_size t (T_from_true _ f) (subst (λ (x : Float). lt x four ≡ false) is h)
 
 pub rest_of_negative : (t a w : Float) → fits binary64 t ≡ true → a ≡ float_with_sign false t → w ≡ trunc binary64 (mul binary64 a (bits 0x3FD0_0000_0000_0000))
     → lt a (bits 0x4010_0000_0000_0000) ≡ false → lt t (bits 0) ≡ true
