@@ -1,9 +1,10 @@
-use crate::record::{Noted, PLACE_BYTES, first_point};
+use crate::record::{Noted, Place, PlaceBytes};
 use path::command::Command;
 use path::geometry::Point;
 use std::num::f32_to_f64_with_nan;
 
-/// How the curves of an arc compare with the places that were noted for them.
+/// How the curves of an arc compare with the places that were noted for them. All four are counted,
+/// so none is an error.
 #[derive(Clone, Copy)]
 pub(crate) enum Compared {
     /// A number is NaN or infinite.
@@ -18,63 +19,50 @@ pub(crate) enum Compared {
 
 /// The curves against the places.
 pub(crate) fn compare(noted: Noted<'_>, curves: &[Command]) -> Compared {
-    if !all_finite(curves) {
+    if !curves.iter().all(|curve| is_finite(*curve)) {
         return Compared::NotFinite;
     }
-    if let Some(ratio) = worst_ratio(noted, noted.places, curves) {
-        return if ratio.is_finite() {
-            Compared::AsMany(ratio)
-        } else {
-            Compared::NotFinite
-        };
-    }
-    let Some(others) = noted.others else {
-        return Compared::Miscounted;
+    let compared = match worst_ratio(noted, noted.places, curves) {
+        Some(ratio) => Some(Compared::AsMany(ratio)),
+        None => noted
+            .others
+            .and_then(|others| worst_ratio(noted, others, curves))
+            .map(Compared::OneOff),
     };
-    match worst_ratio(noted, others, curves) {
+    match compared {
         None => Compared::Miscounted,
-        Some(ratio) if ratio.is_finite() => Compared::OneOff(ratio),
-        Some(_) => Compared::NotFinite,
-    }
-}
-
-fn all_finite(curves: &[Command]) -> bool {
-    for curve in curves {
-        let Command::CurveTo(b, c, d) = *curve else {
-            return false;
-        };
-        if !(finite(b) && finite(c) && finite(d)) {
-            return false;
+        Some(Compared::AsMany(ratio) | Compared::OneOff(ratio)) if !ratio.is_finite() => {
+            Compared::NotFinite
         }
+        Some(compared) => compared,
     }
-    true
 }
 
-fn finite(p: Point) -> bool {
-    p.x.is_finite() && p.y.is_finite()
+fn is_finite(curve: Command) -> bool {
+    match curve {
+        Command::CurveTo(b, c, d) => [b, c, d].iter().all(|p| p.x.is_finite() && p.y.is_finite()),
+        _ => false,
+    }
 }
 
 // How far a middle or an end lies from its place at most, in radii; none where there are more or
 // fewer curves than places.
-fn worst_ratio(noted: Noted<'_>, places: &[u8], curves: &[Command]) -> Option<f64> {
-    if places.len() / PLACE_BYTES != curves.len() {
+fn worst_ratio(noted: Noted<'_>, places: &[PlaceBytes], curves: &[Command]) -> Option<f64> {
+    if places.len() != curves.len() {
         return None;
     }
     let radius = f32_to_f64_with_nan(noted.radius);
     let mut from = noted.arc.from;
-    let mut left = places;
     let mut worst: f64 = 0.0;
-    for curve in curves {
+    for (curve, place) in curves.iter().zip(places) {
         let Command::CurveTo(b, c, d) = *curve else {
             return None;
         };
-        let (middle, rest) = first_point(left)?;
-        let (end, rest) = first_point(rest)?;
-        let at_middle = halfway(from, b, c, d).distance(Wide::new(middle));
-        let at_end = Wide::new(d).distance(Wide::new(end));
+        let Place { middle, end } = Place::from(*place);
+        let at_middle = halfway(from, b, c, d).distance(Wide::from(middle));
+        let at_end = Wide::from(d).distance(Wide::from(end));
         worst = larger(worst, larger(at_middle, at_end) / radius);
         from = d;
-        left = rest;
     }
     Some(worst)
 }
@@ -86,14 +74,16 @@ struct Wide {
     y: f64,
 }
 
-impl Wide {
-    fn new(p: Point) -> Wide {
+impl From<Point> for Wide {
+    fn from(p: Point) -> Wide {
         Wide {
             x: f32_to_f64_with_nan(p.x),
             y: f32_to_f64_with_nan(p.y),
         }
     }
+}
 
+impl Wide {
     fn distance(self, other: Wide) -> f64 {
         let (x, y) = (self.x - other.x, self.y - other.y);
         (x * x + y * y).sqrt()
@@ -102,14 +92,14 @@ impl Wide {
 
 // The point of a curve at the time 1/2.
 fn halfway(a: Point, b: Point, c: Point, d: Point) -> Wide {
-    let (a, b, c, d) = (Wide::new(a), Wide::new(b), Wide::new(c), Wide::new(d));
+    let [a, b, c, d] = [a, b, c, d].map(Wide::from);
     Wide {
         x: (a.x + 3.0 * (b.x + c.x) + d.x) / 8.0,
         y: (a.y + 3.0 * (b.y + c.y) + d.y) / 8.0,
     }
 }
 
-// NaN where one of the two is.
+// NaN where one of the two is, which `max` passes over.
 fn larger(x: f64, y: f64) -> f64 {
     if x >= y || x != x { x } else { y }
 }

@@ -1,4 +1,5 @@
-ghost use Rattle.std.specs.Prelude.{◌<◌, ◌≤◌, length, IfSome};
+ghost use Rattle.std.specs.Prelude.{◌≤◌, length, IfSome};
+ghost use Rattle.std.specs.Iterator.{at_most};
 
 use arcs::arc_to::{ArcSize, ArcSweep, ArcTo};
 use codec::float::float_of;
@@ -6,8 +7,18 @@ use path::geometry::Point;
 
 const ROW_BYTES: usize = 9;
 
-/// The bytes of a place: where the middle of a curve lies, and where its end.
-pub(crate) const PLACE_BYTES: usize = 16;
+/// Where the middle of a curve lies, and where its end.
+#[derive(Clone, Copy)]
+pub(crate) struct Place {
+    pub middle: Point,
+    pub end: Point,
+}
+
+/// The four numbers of a place, as they are written.
+pub(crate) type PlaceBytes = [[u8; 4]; 4];
+
+/// The number of bytes of a place.
+const PLACE_BYTES: usize = 16;
 
 /// An arc with the answers of a maths host.
 #[derive(Clone, Copy)]
@@ -21,11 +32,12 @@ pub(crate) struct Asked<'a> {
 /// the arc ends near a quarter.
 #[derive(Clone, Copy)]
 pub(crate) struct Noted<'a> {
+    // A number and no enum: kinds have no names, in the file or elsewhere.
     pub kind: u8,
     pub arc: ArcTo,
     pub radius: f32,
-    pub places: &'a [u8],
-    pub others: Option<&'a [u8]>,
+    pub places: &'a [PlaceBytes],
+    pub others: Option<&'a [PlaceBytes]>,
 }
 
 #[derive(Clone, Copy)]
@@ -34,133 +46,199 @@ pub(crate) enum Record<'a> {
     Noted(Noted<'a>),
 }
 
-/// The record that the bytes begin with, and the bytes after it; none where it is damaged.
-pub(crate) fn first_record(bytes: &[u8]) -> Option<(Record<'_>, &[u8])>
-    ensures { IfSome result (λ p. length p.1.now < length bytes.now) }
-{
-    let (letter, bytes) = bytes.split_first()?;
-    match *letter {
-        b'A' => {
-            let (asked, bytes) = first_asked(bytes)?;
-            Some((Record::Asked(asked), bytes))
-        }
-        b'B' => {
-            let (noted, bytes) = first_noted(bytes)?;
-            Some((Record::Noted(noted), bytes))
-        }
-        _ => None,
+/// The bytes are no record.
+#[derive(Clone, Copy)]
+pub(crate) struct Damaged;
+
+/// The records that some bytes hold; after a damaged one there is none.
+#[derive(Clone, Copy)]
+pub(crate) struct Records<'a> {
+    left: &'a [u8],
+}
+
+impl<'a> Records<'a> {
+    pub(crate) fn new(bytes: &'a [u8]) -> Records<'a> {
+        Records { left: bytes }
     }
 }
 
-fn first_asked(bytes: &[u8]) -> Option<(Asked<'_>, &[u8])>
-    ensures { IfSome result (λ p. length p.1.now ≤ length bytes.now) }
-{
-    let (scaled, bytes) = first_flag(bytes)?;
-    let (arc, bytes) = first_arc(bytes)?;
-    let (count, bytes) = bytes.split_first_chunk::<4>()?;
-    let count = u32::from_be_bytes(*count) as usize;
-    let (rows, bytes) = bytes.split_at_checked(count.checked_mul(ROW_BYTES)?)?;
-    Some((Asked { scaled, arc, rows }, bytes))
+impl<'a> Iterator for Records<'a> {
+    type Item = Result<Record<'a>, Damaged>;
+
+    ghost remaining = { λ s. at_most (length s.left.now) };
+
+    fn next(&mut self) -> Option<Result<Record<'a>, Damaged>> {
+        let (letter, bytes) = self.left.split_first()?;
+        match Record::lettered(*letter, bytes) {
+            Some((record, left)) => {
+                self.left = left;
+                Some(Ok(record))
+            }
+            None => {
+                self.left = &[];
+                Some(Err(Damaged))
+            }
+        }
+    }
 }
 
-fn first_noted(bytes: &[u8]) -> Option<(Noted<'_>, &[u8])>
-    ensures { IfSome result (λ p. length p.1.now ≤ length bytes.now) }
-{
-    let (kind, bytes) = bytes.split_first()?;
-    let (arc, bytes) = first_arc(bytes)?;
-    let (radius, bytes) = first_number(bytes)?;
-    let (places, bytes) = first_places(bytes)?;
-    let (others, bytes) = first_others(bytes)?;
-    let noted = Noted {
-        kind: *kind,
-        arc,
-        radius,
-        places,
-        others,
-    };
-    Some((noted, bytes))
+/// What bytes can begin with.
+trait FromBytes<'a>: Sized {
+    /// The value that the bytes begin with, and the bytes after it; none where it is damaged.
+    fn first(bytes: &'a [u8]) -> Option<(Self, &'a [u8])>
+        ensures { IfSome result (λ p. length p.1.now ≤ length bytes.now) };
 }
 
-fn first_others(bytes: &[u8]) -> Option<(Option<&[u8]>, &[u8])>
-    ensures { IfSome result (λ p. length p.1.now ≤ length bytes.now) }
-{
-    let (given, bytes) = first_flag(bytes)?;
-    if given {
-        let (places, bytes) = first_places(bytes)?;
-        Some((Some(places), bytes))
-    } else {
-        Some((None, bytes))
+impl<'a> Record<'a> {
+    // The record that begins with the letter, and the bytes after it.
+    fn lettered(letter: u8, bytes: &'a [u8]) -> Option<(Record<'a>, &'a [u8])>
+        ensures { IfSome result (λ p. length p.1.now ≤ length bytes.now) }
+    {
+        match letter {
+            b'A' => {
+                let (asked, bytes) = Asked::first(bytes)?;
+                Some((Record::Asked(asked), bytes))
+            }
+            b'B' => {
+                let (noted, bytes) = Noted::first(bytes)?;
+                Some((Record::Noted(noted), bytes))
+            }
+            _ => None,
+        }
+    }
+}
+
+impl<'a> FromBytes<'a> for Asked<'a> {
+    fn first(bytes: &'a [u8]) -> Option<(Asked<'a>, &'a [u8])> {
+        let (scaled, bytes) = bool::first(bytes)?;
+        let (arc, bytes) = ArcTo::first(bytes)?;
+        let (count, bytes) = bytes.split_first_chunk::<4>()?;
+        let count = u32::from_be_bytes(*count) as usize;
+        let (rows, bytes) = bytes.split_at_checked(count.checked_mul(ROW_BYTES)?)?;
+        Some((Asked { scaled, arc, rows }, bytes))
+    }
+}
+
+impl<'a> FromBytes<'a> for Noted<'a> {
+    fn first(bytes: &'a [u8]) -> Option<(Noted<'a>, &'a [u8])> {
+        let (kind, bytes) = bytes.split_first()?;
+        let (arc, bytes) = ArcTo::first(bytes)?;
+        let (radius, bytes) = f32::first(bytes)?;
+        let (places, bytes) = FromBytes::first(bytes)?;
+        let (others, bytes) = FromBytes::first(bytes)?;
+        let noted = Noted {
+            kind: *kind,
+            arc,
+            radius,
+            places,
+            others,
+        };
+        Some((noted, bytes))
+    }
+}
+
+// A flag that says whether there is a value, and the value.
+impl<'a, T: FromBytes<'a>> FromBytes<'a> for Option<T> {
+    fn first(bytes: &'a [u8]) -> Option<(Option<T>, &'a [u8])> {
+        let (given, bytes) = bool::first(bytes)?;
+        if given {
+            let (value, bytes) = T::first(bytes)?;
+            Some((Some(value), bytes))
+        } else {
+            Some((None, bytes))
+        }
     }
 }
 
 // A byte that counts the places, and their bytes.
-fn first_places(bytes: &[u8]) -> Option<(&[u8], &[u8])>
-    ensures { IfSome result (λ p. length p.1.now ≤ length bytes.now) }
-{
-    let (count, bytes) = bytes.split_first()?;
-    bytes.split_at_checked(usize::from(*count) * PLACE_BYTES)
-}
-
-fn first_arc(bytes: &[u8]) -> Option<(ArcTo, &[u8])>
-    ensures { IfSome result (λ p. length p.1.now ≤ length bytes.now) }
-{
-    let (from, bytes) = first_point(bytes)?;
-    let (rx, bytes) = first_number(bytes)?;
-    let (ry, bytes) = first_number(bytes)?;
-    let (angle, bytes) = first_number(bytes)?;
-    let (to, bytes) = first_point(bytes)?;
-    let (large, bytes) = first_flag(bytes)?;
-    let (positive, bytes) = first_flag(bytes)?;
-    let arc = ArcTo {
-        from,
-        rx,
-        ry,
-        angle,
-        size: size_of_arc(large),
-        sweep: sweep_of_arc(positive),
-        to,
-    };
-    Some((arc, bytes))
-}
-
-fn size_of_arc(large: bool) -> ArcSize {
-    if large {
-        ArcSize::Large
-    } else {
-        ArcSize::Small
+impl<'a> FromBytes<'a> for &'a [PlaceBytes] {
+    fn first(bytes: &'a [u8]) -> Option<(&'a [PlaceBytes], &'a [u8])> {
+        let (count, bytes) = bytes.split_first()?;
+        let (places, bytes) = bytes.split_at_checked(usize::from(*count) * PLACE_BYTES)?;
+        let (numbers, _) = places.as_chunks::<4>();
+        let (places, _) = numbers.as_chunks::<4>();
+        Some((places, bytes))
     }
 }
 
-fn sweep_of_arc(positive: bool) -> ArcSweep {
-    if positive {
-        ArcSweep::Positive
-    } else {
-        ArcSweep::Negative
+impl<'a> FromBytes<'a> for ArcTo {
+    fn first(bytes: &'a [u8]) -> Option<(ArcTo, &'a [u8])> {
+        let (from, bytes) = Point::first(bytes)?;
+        let (rx, bytes) = f32::first(bytes)?;
+        let (ry, bytes) = f32::first(bytes)?;
+        let (angle, bytes) = f32::first(bytes)?;
+        let (to, bytes) = Point::first(bytes)?;
+        let (size, bytes) = ArcSize::first(bytes)?;
+        let (sweep, bytes) = ArcSweep::first(bytes)?;
+        let arc = ArcTo {
+            from,
+            rx,
+            ry,
+            angle,
+            size,
+            sweep,
+            to,
+        };
+        Some((arc, bytes))
     }
 }
 
-pub(crate) fn first_point(bytes: &[u8]) -> Option<(Point, &[u8])>
+// A flag that chooses between two values.
+fn chosen<T: Copy>(bytes: &[u8], unset: T, set: T) -> Option<(T, &[u8])>
     ensures { IfSome result (λ p. length p.1.now ≤ length bytes.now) }
 {
-    let (x, bytes) = first_number(bytes)?;
-    let (y, bytes) = first_number(bytes)?;
-    Some((Point::new(x, y), bytes))
+    let (flag, bytes) = bool::first(bytes)?;
+    Some((if flag { set } else { unset }, bytes))
 }
 
-fn first_number(bytes: &[u8]) -> Option<(f32, &[u8])>
-    ensures { IfSome result (λ p. length p.1.now ≤ length bytes.now) }
-{
-    let (bits, bytes) = bytes.split_first_chunk::<4>()?;
-    Some((float_of(u32::from_be_bytes(*bits)), bytes))
-}
-
-fn first_flag(bytes: &[u8]) -> Option<(bool, &[u8])>
-    ensures { IfSome result (λ p. length p.1.now ≤ length bytes.now) }
-{
-    let (flag, bytes) = bytes.split_first()?;
-    match *flag {
-        0 => Some((false, bytes)),
-        1 => Some((true, bytes)),
-        _ => None,
+impl<'a> FromBytes<'a> for ArcSize {
+    fn first(bytes: &'a [u8]) -> Option<(ArcSize, &'a [u8])> {
+        chosen(bytes, ArcSize::Small, ArcSize::Large)
     }
+}
+
+impl<'a> FromBytes<'a> for ArcSweep {
+    fn first(bytes: &'a [u8]) -> Option<(ArcSweep, &'a [u8])> {
+        chosen(bytes, ArcSweep::Negative, ArcSweep::Positive)
+    }
+}
+
+impl<'a> FromBytes<'a> for Point {
+    fn first(bytes: &'a [u8]) -> Option<(Point, &'a [u8])> {
+        let (x, bytes) = f32::first(bytes)?;
+        let (y, bytes) = f32::first(bytes)?;
+        Some((Point::new(x, y), bytes))
+    }
+}
+
+impl<'a> FromBytes<'a> for f32 {
+    fn first(bytes: &'a [u8]) -> Option<(f32, &'a [u8])> {
+        let (bits, bytes) = bytes.split_first_chunk::<4>()?;
+        Some((number(*bits), bytes))
+    }
+}
+
+impl<'a> FromBytes<'a> for bool {
+    fn first(bytes: &'a [u8]) -> Option<(bool, &'a [u8])> {
+        let (flag, bytes) = bytes.split_first()?;
+        match *flag {
+            0 => Some((false, bytes)),
+            1 => Some((true, bytes)),
+            _ => None,
+        }
+    }
+}
+
+impl From<PlaceBytes> for Place {
+    fn from(bytes: PlaceBytes) -> Place {
+        let [x, y, end_x, end_y] = bytes.map(number);
+        Place {
+            middle: Point::new(x, y),
+            end: Point::new(end_x, end_y),
+        }
+    }
+}
+
+fn number(bytes: [u8; 4]) -> f32 {
+    float_of(u32::from_be_bytes(bytes))
 }

@@ -1,9 +1,10 @@
 use crate::compared::Compared;
+use distances::figures::one_more;
 use std::fmt;
 use std::num::saturating_f64_to_u64;
 
 /// What came of some arcs.
-#[derive(Clone, Copy)]
+#[derive(Clone, Copy, Default)]
 pub(crate) struct Tally {
     arcs: u64,
     as_many: u64,
@@ -14,7 +15,7 @@ pub(crate) struct Tally {
 }
 
 // How far off arcs are, in radii: the farthest and its number, and how many are past some limits.
-#[derive(Clone, Copy)]
+#[derive(Clone, Copy, Default)]
 struct Off {
     worst: f64,
     number: u64,
@@ -24,66 +25,32 @@ struct Off {
 }
 
 impl Off {
-    fn new() -> Off {
-        Off {
-            worst: 0.0,
-            number: 0,
-            past_512th: 0,
-            past_128th: 0,
-            past_32nd: 0,
+    fn count(&mut self, number: u64, ratio: f64) {
+        if ratio > self.worst {
+            self.worst = ratio;
+            self.number = number;
         }
-    }
-
-    fn counted(self, number: u64, ratio: f64) -> Off {
-        let farther = ratio > self.worst;
-        Off {
-            worst: if farther { ratio } else { self.worst },
-            number: if farther { number } else { self.number },
-            past_512th: one_more(self.past_512th, ratio * 512.0 > 1.0),
-            past_128th: one_more(self.past_128th, ratio * 128.0 > 1.0),
-            past_32nd: one_more(self.past_32nd, ratio * 32.0 > 1.0),
-        }
+        self.past_512th = one_more(self.past_512th, ratio * 512.0 > 1.0);
+        self.past_128th = one_more(self.past_128th, ratio * 128.0 > 1.0);
+        self.past_32nd = one_more(self.past_32nd, ratio * 32.0 > 1.0);
     }
 }
 
 impl Tally {
-    pub(crate) fn new() -> Tally {
-        Tally {
-            arcs: 0,
-            as_many: 0,
-            one_off: 0,
-            miscounted: 0,
-            not_finite: 0,
-            off: Off::new(),
+    /// Counts one arc more, of this number.
+    pub(crate) fn count(&mut self, number: u64, compared: Compared) {
+        self.arcs = self.arcs.saturating_add(1);
+        let alike = match compared {
+            Compared::NotFinite => &mut self.not_finite,
+            Compared::Miscounted => &mut self.miscounted,
+            Compared::AsMany(_) => &mut self.as_many,
+            Compared::OneOff(_) => &mut self.one_off,
+        };
+        *alike = alike.saturating_add(1);
+        if let Compared::AsMany(ratio) | Compared::OneOff(ratio) = compared {
+            self.off.count(number, ratio);
         }
     }
-
-    pub(crate) fn is_empty(self) -> bool {
-        self.arcs == 0
-    }
-
-    /// With one arc more, of this number.
-    pub(crate) fn counted(self, number: u64, compared: Compared) -> Tally {
-        let mut tally = self;
-        tally.arcs = one_more(tally.arcs, true);
-        match compared {
-            Compared::NotFinite => tally.not_finite = one_more(tally.not_finite, true),
-            Compared::Miscounted => tally.miscounted = one_more(tally.miscounted, true),
-            Compared::AsMany(ratio) => {
-                tally.as_many = one_more(tally.as_many, true);
-                tally.off = tally.off.counted(number, ratio);
-            }
-            Compared::OneOff(ratio) => {
-                tally.one_off = one_more(tally.one_off, true);
-                tally.off = tally.off.counted(number, ratio);
-            }
-        }
-        tally
-    }
-}
-
-fn one_more(n: u64, counts: bool) -> u64 {
-    if counts { n.saturating_add(1) } else { n }
 }
 
 impl fmt::Display for Tally {

@@ -1,13 +1,17 @@
 -- One curve more of those that are left.
-use Rattle.std.proofs.Common.{◌≡◌, ℕ, zero, suc, ◌+◌, ◌-◌, ◌<◌, List, [], ◌∷◌, ◌++◌, length, sym, refl, ap, ◌∙◌, append_assoc, append-nil, arith}
-use lib.Ieee.{Float}
-use Rattle.numbers.specs.Arithmetic.{◌⊕◌}
+use Rattle.std.proofs.Common.{◌≡◌, ℕ, zero, suc, ◌+◌, ◌-◌, ◌<◌, ◌≤◌, Bool, true, false, cond, List, [], ◌∷◌, ◌++◌, length, sym, refl, ap, ◌∙◌, append_assoc, append-nil, arith}
+use lib.Ieee.{Float, le}
+use Rattle.numbers.specs.Arithmetic.{◌⊕◌, one}
 use Rattle.maths.specs.Functions.{Functions}
 use Rattle.maths.specs.Questions.{all_asked}
 use Rattle.maths.specs.declared.host.Function.{Function}
 use Rattle.maths.proofs.Asking.{asked_append}
 use Rattle.path.specs.declared.command.Command.{Command}
+use Rattle.arcs.specs.declared.arc_to.ArcTo.{ArcTo}
+use Rattle.arcs.specs.declared.centre.Centred.{Centred}
 use Rattle.arcs.specs.declared.ellipse.Ellipse.{Ellipse}
+use Rattle.curves.specs.Curves.{two, three}
+use Rattle.arcs.specs.Sweeps.{turn_of, curves_needed, sweep_of}
 use Rattle.arcs.specs.Curves.{curve_at, curve_questions, all_curves, all_questions}
 
 one_less : (n i : ℕ) → i < n → n - i ≡ suc (n - (i + 1))
@@ -35,15 +39,25 @@ questions_more asked n i t each host h is left =
     let rest = all_questions (n - (i + 1)) (t ⊕ each) each in
     ap (λ s. all_asked asked s rest) is ∙ sym (asked_append asked host (curve_questions t (t ⊕ each)) rest) ∙ ap (all_asked asked host) (sym (questions_next n i t each h)) ∙ left
 
-pub curves_all : (n : ℕ) (F : Functions) (e : Ellipse) (t each : Float) (drawn : List Command) {all : List Command} → n ≡ 0 → drawn ++ all_curves n F e t each ≡ all → drawn ≡ all
+pub no_curves : (n : ℕ) (F : Functions) (e : Ellipse) (t each : Float) (drawn : List Command) → n ≡ 0 → drawn ++ all_curves n F e t each ≡ drawn
 unfolding all_curves
-curves_all n F e t each drawn none left = sym (append-nil drawn) ∙ sym (ap (λ k. drawn ++ all_curves k F e t each) none) ∙ left
+no_curves n F e t each drawn none = ap (λ k. drawn ++ all_curves k F e t each) none ∙ append-nil drawn
 
-pub questions_all : {S : Type 0} (asked : S → Function → Float → S) (n : ℕ) (t each : Float) (host : S) {all : S} → n ≡ 0 → all_asked asked host (all_questions n t each) ≡ all → host ≡ all
+pub no_questions : (n : ℕ) (t each : Float) → n ≡ 0 → all_questions n t each ≡ []
 unfolding all_questions
-questions_all asked n t each host none left = sym (ap (λ k. all_asked asked host (all_questions k t each)) none) ∙ left
+no_questions n t each none = ap (λ k. all_questions k t each) none
 
 pub curves_long : (n : ℕ) (F : Functions) (e : Ellipse) (t each : Float) → length (all_curves n F e t each) ≡ n
 unfolding all_curves
 curves_long zero F e t each = refl
 curves_long (suc n) F e t each = ap suc (curves_long n F e (t ⊕ each) each)
+
+-- one to four, by each of the three tests
+counts_few : (a b c : Bool) → (1 ≤ cond a 1 (cond b 2 (cond c 3 4))) × (cond a 1 (cond b 2 (cond c 3 4)) ≤ 4)
+counts_few true b c = (omega arith, omega arith)
+counts_few false true c = (omega arith, omega arith)
+counts_few false false true = (omega arith, omega arith)
+counts_few false false false = (omega arith, omega arith)
+
+pub sweep_few : (F : Functions) (a : ArcTo) (c : Centred) → (1 ≤ (sweep_of F a c).count) × ((sweep_of F a c).count ≤ 4)
+sweep_few F a c = let x = curves_needed (turn_of F a c) in counts_few (le x one) (le x two) (le x three)

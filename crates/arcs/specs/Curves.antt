@@ -9,25 +9,22 @@ use Rattle.maths.specs.declared.host.Function.TheVariants.{Sine, Cosine}
 use Rattle.path.specs.declared.geometry.Vector.{Vector}
 use Rattle.path.specs.declared.command.Command.{Command}
 use Rattle.path.specs.declared.command.Command.TheVariants.{CurveTo}
-use Rattle.path.specs.Vectors.{vector}
+use Rattle.path.specs.Vectors.{vector, sum}
 use Rattle.arcs.specs.declared.arc_to.ArcTo.{ArcTo}
 use Rattle.arcs.specs.declared.centre.Turned.{Turned}
 use Rattle.arcs.specs.declared.centre.Centred.{Centred}
 use Rattle.arcs.specs.declared.sweep.Sweep.{Sweep}
 use Rattle.arcs.specs.declared.ellipse.Ellipse.{Ellipse}
-use Rattle.arcs.specs.Centres.{half_chord, centred}
+use Rattle.arcs.specs.Centres.{to_ellipse, turn, half_chord, centred}
 use Rattle.arcs.specs.Sweeps.{sweep_of, sweep_questions}
 
 -- a point by its place on the circle of radius 1
-abbrev pub placed : Ellipse → Float → Float → Vector
-placed e x y =
-    let px = x ⊗ e.rx in
-    let py = y ⊗ e.ry in
-    vector (e.centre.x ⊕ (e.turned.cosine ⊗ px ⊖ e.turned.sine ⊗ py)) (e.centre.y ⊕ (e.turned.sine ⊗ px ⊕ e.turned.cosine ⊗ py))
+abbrev pub placed : Ellipse → Vector → Vector
+placed e v = sum e.centre (turn e.turned (to_ellipse e.radii v))
 
 abbrev pub curve_between : Ellipse → Vector → Vector → Command
 curve_between e p q = let a = e.bulge in
-    CurveTo (placed e (p.x ⊖ p.y ⊗ a) (p.y ⊕ p.x ⊗ a)) (placed e (q.x ⊕ q.y ⊗ a) (q.y ⊖ q.x ⊗ a)) (placed e q.x q.y)
+    CurveTo (placed e (vector (p.x ⊖ p.y ⊗ a) (p.y ⊕ p.x ⊗ a))) (placed e (vector (q.x ⊕ q.y ⊗ a) (q.y ⊖ q.x ⊗ a))) (placed e q)
 
 -- on the circle, at an angle
 abbrev pub round_at : Functions → Float → Vector
@@ -59,7 +56,7 @@ abbrev pub turned_of : Functions → Float → Turned
 turned_of F angle = record { sine = F.sine angle; cosine = F.cosine angle }
 
 abbrev pub ellipse : Centred → Turned → Sweep → Ellipse
-ellipse c t s = record { centre = c.centre; rx = c.rx; ry = c.ry; turned = t; bulge = s.bulge }
+ellipse c t s = record { centre = c.centre; radii = c.radii; turned = t; bulge = s.bulge }
 
 abbrev pub centred_of : Functions → Bool → ArcTo → Centred
 centred_of F scaled a = centred a (turned_of F a.angle) (half_chord a (turned_of F a.angle)) scaled

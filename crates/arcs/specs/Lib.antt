@@ -1,4 +1,3 @@
 pub mod Curves
 pub mod Centres
-pub mod Lists
 pub mod Sweeps

@@ -17,6 +17,7 @@ use Rattle.arcs.specs.declared.arc_to.ArcSize.TheVariants.{Small, Large}
 use Rattle.arcs.specs.declared.arc_to.ArcSweep.{ArcSweep}
 use Rattle.arcs.specs.declared.arc_to.ArcSweep.TheVariants.{Negative, Positive}
 use Rattle.arcs.specs.declared.centre.Centred.{Centred}
+use Rattle.arcs.specs.declared.sweep.Angle.{Angle}
 use Rattle.arcs.specs.declared.sweep.Sweep.{Sweep}
 use Rattle.arcs.specs.Centres.{size_of}
 
@@ -37,8 +38,15 @@ cosine_between u v = kept_within (dot_product u v) (neg one) one
 abbrev pub sign_between : Vector → Vector → Float
 sign_between u v = cond (lt (u.x ⊗ v.y ⊖ u.y ⊗ v.x) zero) (neg one) one
 
+-- by the shorter way round: its sign and its size
+abbrev pub vec_angle : Functions → Vector → Vector → Angle
+vec_angle F u v = record { sign = sign_between u v; size = F.arc_cosine (cosine_between u v) }
+
+abbrev pub signed_angle : Angle → Float
+signed_angle a = a.sign ⊗ a.size
+
 abbrev pub angle_between : Functions → Vector → Vector → Float
-angle_between F u v = sign_between u v ⊗ F.arc_cosine (cosine_between u v)
+angle_between F u v = signed_angle (vec_angle F u v)
 
 -- a whole turn more where it is negative
 abbrev pub turned_by : Float → Float

@@ -1,40 +1,39 @@
 ghost use Rattle.std.specs.Prelude.{◌≡◌};
 ghost use Rattle.std.specs.Float.{float_max};
-ghost use Rattle.arcs.specs.Centres.{half_chord, factor, largest, scale_of, lambda, grown, same_flags, distance_root, signed_root, centre_along, placed_centre, centred_by, centred};
+ghost use Rattle.arcs.specs.Centres.{half_chord, factor, largest, scale_of, scaled_radii, lambda, grown, same_flags, distance_root, signed_root, centre_along, turn, placed_centre, centred_by, centred};
+ghost use Rattle.path.specs.Vectors.{multiple};
 
 use crate::arc_to::{ArcSize, ArcSweep, ArcTo};
+use crate::radii::Radii;
 use numbers::sqrt;
 use path::geometry::{Point, Vector};
 use std::num::{f32_from_bits_with_nan, f32_to_bits_with_nan};
 
 /// The angle that an ellipse is turned by, as its sine and cosine.
-#[derive(Clone, Copy)]
+#[derive(Clone, Copy, Debug, PartialEq)]
 pub struct Turned {
     pub sine: f32,
     pub cosine: f32,
 }
 
-/// An arc by its centre: the ellipse's centre and radii, and where on it, as on a circle of radius 1
-/// about 0, the arc begins and ends.
-#[derive(Clone, Copy)]
-pub struct Centred {
-    pub centre: Point,
-    pub rx: f32,
-    pub ry: f32,
-    pub start: Vector,
-    pub end: Vector,
+impl Turned {
+    // From the axes of the ellipse to those of the plane.
+    pub(crate) fn turn(self, v: Vector) -> Vector
+        ensures { result ≡ turn self v }
+    {
+        let Turned { sine, cosine } = self;
+        Vector::new(cosine * v.x - sine * v.y, sine * v.x + cosine * v.y)
+    }
 }
 
-// Half of the way from the end back to the start, along the axes of the ellipse.
-pub(crate) fn half_chord(arc: ArcTo, turned: Turned) -> Vector
-    ensures { result ≡ half_chord arc turned }
-{
-    let dx = arc.from.x - arc.to.x;
-    let dy = arc.from.y - arc.to.y;
-    Vector::new(
-        turned.cosine * dx / 2.0 + turned.sine * dy / 2.0,
-        -turned.sine * dx / 2.0 + turned.cosine * dy / 2.0,
-    )
+/// An arc by its centre: the ellipse's centre and radii, and where on it, as on a circle of radius 1
+/// about 0, the arc begins and ends.
+#[derive(Clone, Copy, Debug, PartialEq)]
+pub struct Centred {
+    pub centre: Point,
+    pub radii: Radii,
+    pub start: Vector,
+    pub end: Vector,
 }
 
 // The power of two that brings a length into the range from 1 to 2, or near it at the ends of
@@ -52,45 +51,76 @@ fn factor(length: f32) -> f32
     }
 }
 
-// The larger of two numbers: where they are equal the first, where one is NaN the other.
+// The larger of two numbers: where they are equal the first, which f32::max of today leaves open, and
+// where one is NaN the other.
 pub(crate) fn larger(a: f32, b: f32) -> f32
     ensures { result ≡ float_max a b }
 {
     if (b <= a) | b.is_nan() { a } else { b }
 }
 
-fn largest(arc: ArcTo, half: Vector) -> f32
-    ensures { result ≡ largest arc half }
-{
-    let along = larger(half.x.abs(), half.y.abs());
-    larger(along, larger(arc.rx.abs(), arc.ry.abs()))
+// Half of the way from the end of an arc back to its start, along the axes of the ellipse, with the
+// radii.
+#[derive(Clone, Copy)]
+struct Chord {
+    half: Vector,
+    radii: Radii,
 }
 
-// What all lengths are multiplied by before their fourth powers are formed.
-fn scale(scaled: bool, arc: ArcTo, half: Vector) -> f32
-    ensures { result ≡ scale_of scaled arc half }
-{
-    if scaled {
-        factor(largest(arc, half))
-    } else {
-        1.0
+impl Chord {
+    fn largest(self) -> f32
+        ensures { result ≡ largest self.half self.radii }
+    {
+        let along = larger(self.half.x.abs(), self.half.y.abs());
+        larger(along, larger(self.radii.x, self.radii.y))
     }
-}
 
-fn lambda(half: Vector, rx: f32, ry: f32) -> f32
-    ensures { result ≡ lambda half rx ry }
-{
-    half.x * half.x / (rx * rx) + half.y * half.y / (ry * ry)
-}
+    // What all lengths are multiplied by before their fourth powers are formed.
+    fn scale(self, scaled: bool) -> f32
+        ensures { result ≡ scale_of scaled self.half self.radii }
+    {
+        if scaled { factor(self.largest()) } else { 1.0 }
+    }
 
-// A radius that is too small for its ends grows until they fit.
-fn grown(radius: f32, lambda: f32) -> f32
-    ensures { result ≡ grown radius lambda }
-{
-    if lambda > 1.0 {
-        radius * sqrt(lambda)
-    } else {
-        radius
+    fn scaled(self, k: f32) -> Chord
+        ensures half { result.half ≡ multiple self.half k }
+        ensures radii { result.radii ≡ scaled_radii self.radii k }
+    {
+        Chord {
+            half: self.half.mul(k),
+            radii: self.radii.scaled(k),
+        }
+    }
+
+    fn lambda(self) -> f32
+        ensures { result ≡ lambda self.half self.radii }
+    {
+        let Chord { half, radii } = self;
+        half.x * half.x / (radii.x * radii.x) + half.y * half.y / (radii.y * radii.y)
+    }
+
+    // With radii that are large enough.
+    fn grown(self) -> Chord
+        ensures half { result.half ≡ self.half }
+        ensures radii { result.radii ≡ grown self.radii (lambda self.half self.radii) }
+    {
+        Chord {
+            half: self.half,
+            radii: self.radii.grown(self.lambda()),
+        }
+    }
+
+    // How far the centre lies from the middle of the chord, as a multiple of the chord turned.
+    fn distance_root(self) -> f32
+        ensures { result ≡ distance_root self.half self.radii }
+    {
+        let Chord { half, radii } = self;
+        let (rx2, ry2) = (radii.x * radii.x, radii.y * radii.y);
+        let (x2, y2) = (half.x * half.x, half.y * half.y);
+        let over = rx2 * ry2 - rx2 * y2 - ry2 * x2;
+        // not `max`, with which a NaN would be 0
+        let over = if over < 0.0 { 0.0 } else { over };
+        sqrt(over / (rx2 * y2 + ry2 * x2))
     }
 }
 
@@ -103,63 +133,78 @@ fn same_flags(arc: ArcTo) -> bool
     }
 }
 
-// How far the centre lies from the middle of the chord, as a multiple of the chord turned.
-fn distance_root(half: Vector, rx: f32, ry: f32) -> f32
-    ensures { result ≡ distance_root half rx ry }
-{
-    let (rx2, ry2) = (rx * rx, ry * ry);
-    let (x2, y2) = (half.x * half.x, half.y * half.y);
-    let over = rx2 * ry2 - rx2 * y2 - ry2 * x2;
-    let over = if over < 0.0 { 0.0 } else { over };
-    sqrt(over / (rx2 * y2 + ry2 * x2))
-}
-
-fn signed_root(arc: ArcTo, half: Vector, rx: f32, ry: f32) -> f32
-    ensures { result ≡ signed_root arc half rx ry }
+fn signed_root(arc: ArcTo, chord: Chord) -> f32
+    ensures { result ≡ signed_root arc chord.half chord.radii }
 {
     let sign = if same_flags(arc) { -1.0 } else { 1.0 };
-    distance_root(half, rx, ry) * sign
+    chord.distance_root() * sign
 }
 
 // The centre along the axes of the ellipse, from the middle of the chord.
-fn centre_along(arc: ArcTo, half: Vector, rx: f32, ry: f32) -> Vector
-    ensures { result ≡ centre_along arc half rx ry }
+fn centre_along(arc: ArcTo, chord: Chord) -> Vector
+    ensures { result ≡ centre_along arc chord.half chord.radii }
 {
-    let root = signed_root(arc, half, rx, ry);
-    Vector::new(root * rx / ry * half.y, root * -ry / rx * half.x)
-}
-
-// Turned back, and moved to the middle of the chord.
-fn placed_centre(arc: ArcTo, turned: Turned, c: Vector) -> Point
-    ensures { result ≡ placed_centre arc turned c }
-{
-    Point::new(
-        turned.cosine * c.x - turned.sine * c.y + (arc.from.x + arc.to.x) / 2.0,
-        turned.sine * c.x + turned.cosine * c.y + (arc.from.y + arc.to.y) / 2.0,
+    let root = signed_root(arc, chord);
+    let Chord { half, radii } = chord;
+    Vector::new(
+        root * radii.x / radii.y * half.y,
+        root * -radii.y / radii.x * half.x,
     )
 }
 
-// The arc by its centre; `half` is half of its chord along the axes.
-pub(crate) fn find_centre(arc: ArcTo, turned: Turned, half: Vector, scaled: bool) -> Centred
-    ensures { result ≡ centred arc turned half scaled }
-{
-    let k = scale(scaled, arc, half);
-    find_centre_by(arc, turned, half.mul(k), k)
+/// An arc with the sine and the cosine of its angle.
+#[derive(Clone, Copy)]
+pub(crate) struct TurnedArc {
+    pub(crate) arc: ArcTo,
+    pub(crate) turned: Turned,
 }
 
-// The same from lengths that are multiplied by k.
-fn find_centre_by(arc: ArcTo, turned: Turned, half: Vector, k: f32) -> Centred
-    ensures { result ≡ centred_by arc turned half k }
-{
-    let (rx, ry) = (arc.rx.abs() * k, arc.ry.abs() * k);
-    let growth = lambda(half, rx, ry);
-    let (rx, ry) = (grown(rx, growth), grown(ry, growth));
-    let c = centre_along(arc, half, rx, ry);
-    Centred {
-        centre: placed_centre(arc, turned, Vector::new(c.x / k, c.y / k)),
-        rx: rx / k,
-        ry: ry / k,
-        start: Vector::new((half.x - c.x) / rx, (half.y - c.y) / ry),
-        end: Vector::new((-half.x - c.x) / rx, (-half.y - c.y) / ry),
+impl TurnedArc {
+    // Half of the way from the end back to the start, along the axes of the ellipse.
+    pub(crate) fn half_chord(self) -> Vector
+        ensures { result ≡ half_chord self.arc self.turned }
+    {
+        let TurnedArc { arc, turned } = self;
+        let chord = arc.from.sub(arc.to);
+        Vector::new(
+            turned.cosine * chord.x / 2.0 + turned.sine * chord.y / 2.0,
+            -turned.sine * chord.x / 2.0 + turned.cosine * chord.y / 2.0,
+        )
+    }
+
+    // Turned back, and moved to the middle of the chord.
+    fn placed_centre(self, c: Vector) -> Point
+        ensures { result ≡ placed_centre self.arc self.turned c }
+    {
+        let ArcTo { from, to, .. } = self.arc;
+        let middle = Vector::new((from.x + to.x) / 2.0, (from.y + to.y) / 2.0);
+        self.turned.turn(c).add(middle)
+    }
+
+    // The arc by its centre; `half` is half of its chord along the axes.
+    pub(crate) fn find_centre(self, half: Vector, scaled: bool) -> Centred
+        ensures { result ≡ centred self.arc self.turned half scaled }
+    {
+        let chord = Chord {
+            half,
+            radii: Radii::of(self.arc),
+        };
+        let k = chord.scale(scaled);
+        self.find_centre_by(chord.scaled(k), k)
+    }
+
+    // The same from lengths that are multiplied by k.
+    fn find_centre_by(self, chord: Chord, k: f32) -> Centred
+        ensures { result ≡ centred_by self.arc self.turned chord.half chord.radii k }
+    {
+        let chord = chord.grown();
+        let c = centre_along(self.arc, chord);
+        let Chord { half, radii } = chord;
+        Centred {
+            centre: self.placed_centre(Vector::new(c.x / k, c.y / k)),
+            radii: radii.divided(k),
+            start: radii.to_circle(half.sub(c)),
+            end: radii.to_circle(Vector::new(-half.x, -half.y).sub(c)),
+        }
     }
 }

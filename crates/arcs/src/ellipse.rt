@@ -1,14 +1,14 @@
-ghost use Rattle.std.specs.Prelude.{◌≡◌, ◌+◌, ◌≤◌, [], ◌∷◌, ◌++◌, length};
+ghost use Rattle.std.specs.Prelude.{◌≡◌, ◌≤◌, length};
 ghost use Rattle.maths.specs.Questions.{all_asked};
 ghost use Rattle.arcs.specs.Curves.{placed, curve_between, round_at, round_questions, turned_of, curve_questions, curve_at, no_chord, all_curves, all_questions, ellipse, round_curves, round_all_questions, arc_curves, arc_questions, OneToFour};
 ghost use Rattle.arcs.specs.Centres.{half_chord};
-ghost use Rattle.arcs.specs.Lists.{commands};
 
 use crate::arc_to::ArcTo;
-use crate::centre::{Centred, Turned, find_centre, half_chord};
-use crate::few::Few;
+use crate::centre::{Centred, Turned, TurnedArc};
+use crate::few::{Few, few};
+use crate::radii::Radii;
 use crate::sweep::{Sweep, find_sweep};
-use maths::host::{MathsHost, MathsMeaning};
+use maths::host::MathsHost;
 use path::command::Command;
 use path::geometry::{Point, Vector};
 
@@ -16,23 +16,28 @@ use path::geometry::{Point, Vector};
 #[derive(Clone, Copy)]
 struct Ellipse {
     centre: Point,
-    rx: f32,
-    ry: f32,
+    radii: Radii,
     turned: Turned,
     bulge: f32,
 }
 
 impl Ellipse {
-    // A point of the plane by its place on the circle of radius 1.
-    fn place(self, x: f32, y: f32) -> Point
-        ensures { result ≡ placed self x y }
+    fn new(centred: Centred, turned: Turned, sweep: Sweep) -> Ellipse
+        ensures { result ≡ ellipse centred turned sweep }
     {
-        let (x, y) = (x * self.rx, y * self.ry);
-        let Turned { sine, cosine } = self.turned;
-        Point::new(
-            self.centre.x + (cosine * x - sine * y),
-            self.centre.y + (sine * x + cosine * y),
-        )
+        Ellipse {
+            centre: centred.centre,
+            radii: centred.radii,
+            turned,
+            bulge: sweep.bulge,
+        }
+    }
+
+    // A point of the plane by its place on the circle of radius 1.
+    fn place(self, v: Vector) -> Point
+        ensures { result ≡ placed self v }
+    {
+        self.centre.add(self.turned.turn(self.radii.to_ellipse(v)))
     }
 
     // The curve between two points of that circle.
@@ -41,16 +46,16 @@ impl Ellipse {
     {
         let a = self.bulge;
         Command::CurveTo(
-            self.place(from.x - from.y * a, from.y + from.x * a),
-            self.place(to.x + to.y * a, to.y - to.x * a),
-            self.place(to.x, to.y),
+            self.place(Vector::new(from.x - from.y * a, from.y + from.x * a)),
+            self.place(Vector::new(to.x + to.y * a, to.y - to.x * a)),
+            self.place(to),
         )
     }
 
     // The curve from one angle to another.
     fn curve_at<K: MathsHost>(self, from: f32, to: f32, host: &mut K) -> Command
-        ensures answer { result ≡ curve_at (K.MathsMeaning.functions host.old) self from to }
-        ensures host { host.new ≡ all_asked K.MathsMeaning.asked host.old (curve_questions from to) }
+        ensures answer { result ≡ curve_at (K.functions host.old) self from to }
+        ensures host { host.new ≡ all_asked K.asked host.old (curve_questions from to) }
     {
         let start = round_at(from, host);
         let end = round_at(to, host);
@@ -60,8 +65,8 @@ impl Ellipse {
 
 // The point of the circle of radius 1 at an angle.
 fn round_at<K: MathsHost>(t: f32, host: &mut K) -> Vector
-    ensures answer { result ≡ round_at (K.MathsMeaning.functions host.old) t }
-    ensures host { host.new ≡ all_asked K.MathsMeaning.asked host.old (round_questions t) }
+    ensures answer { result ≡ round_at (K.functions host.old) t }
+    ensures host { host.new ≡ all_asked K.asked host.old (round_questions t) }
 {
     let sine = host.sin(t);
     let cosine = host.cos(t);
@@ -69,8 +74,8 @@ fn round_at<K: MathsHost>(t: f32, host: &mut K) -> Vector
 }
 
 fn turned<K: MathsHost>(angle: f32, host: &mut K) -> Turned
-    ensures answer { result ≡ turned_of (K.MathsMeaning.functions host.old) angle }
-    ensures host { host.new ≡ all_asked K.MathsMeaning.asked host.old (round_questions angle) }
+    ensures answer { result ≡ turned_of (K.functions host.old) angle }
+    ensures host { host.new ≡ all_asked K.asked host.old (round_questions angle) }
 {
     let Vector { x, y } = round_at(angle, host);
     Turned { sine: y, cosine: x }
@@ -79,59 +84,52 @@ fn turned<K: MathsHost>(angle: f32, host: &mut K) -> Turned
 fn has_no_chord(half: Vector) -> bool
     ensures { result ≡ no_chord half }
 {
-    half.x == 0.0 && half.y == 0.0
+    half == Vector::new(0.0, 0.0)
 }
 
 // So many curves, each as far round as the others.
+#[tactic(auto, using(crate::proofs::Round::no_curves, crate::proofs::Round::no_questions))]
 fn curves_from<K: MathsHost>(ellipse: Ellipse, sweep: Sweep, host: &mut K) -> Few
     requires { sweep.count ≤ 4 }
-    ensures answer { commands result ≡ all_curves sweep.count (K.MathsMeaning.functions host.old) ellipse sweep.start sweep.each }
-    ensures host { host.new ≡ all_asked K.MathsMeaning.asked host.old (all_questions sweep.count sweep.start sweep.each) }
+    ensures answer { result.items ≡ all_curves sweep.count (K.functions host.old) ellipse sweep.start sweep.each }
+    ensures host { host.new ≡ all_asked K.asked host.old (all_questions sweep.count sweep.start sweep.each) }
 {
-    let mut few = Few::none();
+    let mut curves = few(&[]);
     let mut angle = sweep.start;
     for i in 0..sweep.count {
         let next = angle + sweep.each;
-        few.push(ellipse.curve_at(angle, next, host));
+        let _ = curves.push(ellipse.curve_at(angle, next, host));
         angle = next;
     }
-    few
+    curves
 }
 
-impl Ellipse {
-    fn new(centred: Centred, turned: Turned, sweep: Sweep) -> Ellipse
-        ensures { result ≡ ellipse centred turned sweep }
-    {
-        Ellipse {
-            centre: centred.centre,
-            rx: centred.rx,
-            ry: centred.ry,
-            turned,
-            bulge: sweep.bulge,
-        }
-    }
-}
-
-fn curves_round<K: MathsHost>(arc: ArcTo, turned: Turned, centred: Centred, host: &mut K) -> Few
-    ensures answer { commands result ≡ round_curves (K.MathsMeaning.functions host.old) arc turned centred }
-    ensures host { host.new ≡ all_asked K.MathsMeaning.asked host.old (round_all_questions (K.MathsMeaning.functions host.old) arc centred) }
-    ensures few { (1 ≤ length (commands result)) × (length (commands result) ≤ 4) }
+#[tactic(auto, using(crate::proofs::Round::curves_long, crate::proofs::Round::sweep_few))]
+fn curves_round<K: MathsHost>(turned_arc: TurnedArc, centred: Centred, host: &mut K) -> Few
+    ensures answer { result.items ≡ round_curves (K.functions host.old) turned_arc.arc turned_arc.turned centred }
+    ensures host { host.new ≡ all_asked K.asked host.old (round_all_questions (K.functions host.old) turned_arc.arc centred) }
+    ensures few { (1 ≤ length result.items) × (length result.items ≤ 4) }
 {
-    let sweep = find_sweep(arc, centred, host);
-    curves_from(Ellipse::new(centred, turned, sweep), sweep, host)
+    let sweep = find_sweep(turned_arc.arc, centred, host);
+    curves_from(Ellipse::new(centred, turned_arc.turned, sweep), sweep, host)
 }
 
 /// The curves of an arc, one to four, or none where its ends are one point. With `scaled` set,
-/// lengths are brought near 1 before their fourth powers are formed.
+/// lengths are brought near 1 before their fourth powers are formed: a parameter, since one definition
+/// serves the arcs of strokes too.
+#[tactic(auto, unfolding(crate::specs::Curves::arc_curves, crate::specs::Curves::arc_questions))]
 pub fn arc_curves<K: MathsHost>(arc: ArcTo, scaled: bool, host: &mut K) -> Few
-    ensures answer { commands result ≡ arc_curves (K.MathsMeaning.functions host.old) scaled arc }
-    ensures host { host.new ≡ all_asked K.MathsMeaning.asked host.old (arc_questions (K.MathsMeaning.functions host.old) scaled arc) }
-    ensures few { OneToFour (no_chord (half_chord arc (turned_of (K.MathsMeaning.functions host.old) arc.angle))) (commands result) }
+    ensures answer { result.items ≡ arc_curves (K.functions host.old) scaled arc }
+    ensures host { host.new ≡ all_asked K.asked host.old (arc_questions (K.functions host.old) scaled arc) }
+    ensures few { OneToFour (no_chord (half_chord arc (turned_of (K.functions host.old) arc.angle))) result.items }
 {
-    let turned = turned(arc.angle, host);
-    let half = half_chord(arc, turned);
+    let turned_arc = TurnedArc {
+        arc,
+        turned: turned(arc.angle, host),
+    };
+    let half = turned_arc.half_chord();
     if has_no_chord(half) {
-        return Few::none();
+        return few(&[]);
     }
-    curves_round(arc, turned, find_centre(arc, turned, half, scaled), host)
+    curves_round(turned_arc, turned_arc.find_centre(half, scaled), host)
 }

@@ -1,14 +1,14 @@
-ghost use Rattle.std.specs.Prelude.{◌≡◌, ◌≤◌, length};
+ghost use Rattle.std.specs.Prelude.{◌≡◌, take};
 
+use fixed::FixedList;
 use path::command::Command;
 
-mod list;
-
 /// Up to four commands, in order.
-#[derive(Clone, Copy)]
-pub struct Few {
-    commands: [Command; 4],
-    count: usize,
-    ghost places: { length commands ≡ 4 },
-    ghost within: { count ≤ 4 },
+pub type Few = FixedList<Command, 4>;
+
+/// The first four of some commands.
+pub fn few(commands: &[Command]) -> Few
+    ensures { result.items ≡ take 4 commands.now }
+{
+    FixedList::filled(Command::Close, commands)
 }

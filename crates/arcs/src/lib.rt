@@ -6,4 +6,5 @@ pub mod arc_to;
 pub mod centre;
 pub mod ellipse;
 pub mod few;
+pub mod radii;
 pub mod sweep;

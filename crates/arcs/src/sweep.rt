@@ -1,11 +1,11 @@
-ghost use Rattle.std.specs.Prelude.{◌≡◌, ◌≤◌};
+ghost use Rattle.std.specs.Prelude.{◌≡◌};
 ghost use Rattle.maths.specs.declared.host.Function.TheVariants.{ArcCosine};
 ghost use Rattle.maths.specs.Questions.{all_asked};
-ghost use Rattle.arcs.specs.Sweeps.{cosine_between, sign_between, angle_between, turn_by, turned_by, ratio_of, curves_needed, count_of, bulge_of, bulge_questions, turn_of, sweep_of, sweep_questions};
+ghost use Rattle.arcs.specs.Sweeps.{cosine_between, sign_between, vec_angle, signed_angle, turn_by, turned_by, ratio_of, curves_needed, count_of, bulge_of, bulge_questions, sweep_of, sweep_questions};
 
 use crate::arc_to::{ArcSize, ArcSweep, ArcTo};
 use crate::centre::{Centred, larger};
-use maths::host::{MathsHost, MathsMeaning};
+use maths::host::MathsHost;
 use numbers::{ceil, clamp};
 use path::geometry::Vector;
 
@@ -19,7 +19,7 @@ const QUARTER_BULGE: f32 = 0.551915024494;
 
 /// The angles of an arc: where it begins, how far each curve turns, how far the control points of a
 /// curve lie from its ends on a circle of radius 1, and how many curves there are.
-#[derive(Clone, Copy)]
+#[derive(Clone, Copy, Debug, PartialEq)]
 pub struct Sweep {
     pub start: f32,
     pub each: f32,
@@ -43,26 +43,44 @@ fn sign_between(u: Vector, v: Vector) -> f32
     }
 }
 
-// The angle from u to v, by the shorter way round.
-fn vec_angle<K: MathsHost>(u: Vector, v: Vector, host: &mut K) -> f32
-    ensures answer { result ≡ angle_between (K.MathsMeaning.functions host.old) u v }
-    ensures host { host.new ≡ K.MathsMeaning.asked host.old ArcCosine (cosine_between u v) }
-{
-    let angle = host.acos(cosine_between(u, v));
-    sign_between(u, v) * angle
+// The angle from one vector to another by the shorter way round: its size, and 1 where it grows or
+// -1 where it falls.
+#[derive(Clone, Copy)]
+struct Angle {
+    sign: f32,
+    size: f32,
 }
 
-// How far an arc turns. For a small arc with growing angles it is the angle itself, and a whole
-// turn more where that is negative; for the others the flags tell, and not the sign of an
-// angle that was rounded.
-fn turn_by(size: ArcSize, sweep: ArcSweep, sign: f32, angle: f32) -> f32
-    ensures { result ≡ turn_by size sweep sign angle }
+fn vec_angle<K: MathsHost>(u: Vector, v: Vector, host: &mut K) -> Angle
+    ensures answer { result ≡ vec_angle (K.functions host.old) u v }
+    ensures host { host.new ≡ K.asked host.old ArcCosine (cosine_between u v) }
 {
-    match (size, sweep) {
-        (ArcSize::Small, ArcSweep::Positive) => not_negative(sign * angle),
-        (ArcSize::Small, ArcSweep::Negative) => -angle,
-        (ArcSize::Large, ArcSweep::Positive) => TAU - angle,
-        (ArcSize::Large, ArcSweep::Negative) => angle - TAU,
+    let size = host.acos(cosine_between(u, v));
+    Angle {
+        sign: sign_between(u, v),
+        size,
+    }
+}
+
+impl Angle {
+    fn signed(self) -> f32
+        ensures { result ≡ signed_angle self }
+    {
+        self.sign * self.size
+    }
+
+    // How far an arc turns. For a small arc with growing angles it is the angle itself, and a whole
+    // turn more where that is negative; for the others the flags tell, and not the sign of an
+    // angle that was rounded.
+    fn turn_by(self, size: ArcSize, sweep: ArcSweep) -> f32
+        ensures { result ≡ turn_by size sweep self.sign self.size }
+    {
+        match (size, sweep) {
+            (ArcSize::Small, ArcSweep::Positive) => not_negative(self.signed()),
+            (ArcSize::Small, ArcSweep::Negative) => -self.size,
+            (ArcSize::Large, ArcSweep::Positive) => TAU - self.size,
+            (ArcSize::Large, ArcSweep::Negative) => self.size - TAU,
+        }
     }
 }
 
@@ -90,9 +108,9 @@ fn curves_needed(turn: f32) -> f32
     larger(ceil(ratio(turn)), 1.0)
 }
 
+// By comparisons and not by a conversion, so that it is one to four whatever a host answers.
 fn count_of(needed: f32) -> usize
-    ensures value { result ≡ count_of needed }
-    ensures few { (1 ≤ result) × (result ≤ 4) }
+    ensures { result ≡ count_of needed }
 {
     if needed <= 1.0 {
         1
@@ -106,8 +124,8 @@ fn count_of(needed: f32) -> usize
 }
 
 fn bulge<K: MathsHost>(each: f32, host: &mut K) -> f32
-    ensures answer { result ≡ bulge_of (K.MathsMeaning.functions host.old) each }
-    ensures host { host.new ≡ all_asked K.MathsMeaning.asked host.old (bulge_questions each) }
+    ensures answer { result ≡ bulge_of (K.functions host.old) each }
+    ensures host { host.new ≡ all_asked K.asked host.old (bulge_questions each) }
 {
     if each == QUARTER {
         QUARTER_BULGE
@@ -118,22 +136,12 @@ fn bulge<K: MathsHost>(each: f32, host: &mut K) -> f32
     }
 }
 
-fn turn<K: MathsHost>(arc: ArcTo, centred: Centred, host: &mut K) -> f32
-    ensures answer { result ≡ turn_of (K.MathsMeaning.functions host.old) arc centred }
-    ensures host { host.new ≡ K.MathsMeaning.asked host.old ArcCosine (cosine_between centred.start centred.end) }
-{
-    let angle = host.acos(cosine_between(centred.start, centred.end));
-    let sign = sign_between(centred.start, centred.end);
-    turn_by(arc.size, arc.sweep, sign, angle)
-}
-
 pub(crate) fn find_sweep<K: MathsHost>(arc: ArcTo, centred: Centred, host: &mut K) -> Sweep
-    ensures answer { result ≡ sweep_of (K.MathsMeaning.functions host.old) arc centred }
-    ensures host { host.new ≡ all_asked K.MathsMeaning.asked host.old (sweep_questions (K.MathsMeaning.functions host.old) arc centred) }
-    ensures few { (1 ≤ result.count) × (result.count ≤ 4) }
+    ensures answer { result ≡ sweep_of (K.functions host.old) arc centred }
+    ensures host { host.new ≡ all_asked K.asked host.old (sweep_questions (K.functions host.old) arc centred) }
 {
-    let start = vec_angle(Vector::new(1.0, 0.0), centred.start, host);
-    let turn = turn(arc, centred, host);
+    let start = vec_angle(Vector::new(1.0, 0.0), centred.start, host).signed();
+    let turn = vec_angle(centred.start, centred.end, host).turn_by(arc.size, arc.sweep);
     let needed = curves_needed(turn);
     let each = turn / needed;
     Sweep {

@@ -1,17 +1,14 @@
 -- The first item of a row of bytes: how long it is, and at a place in a longer row.
-use Rattle.std.proofs.Common.{◌≡◌, ℕ, suc, ◌+◌, ◌<◌, ◌≤◌, leb, List, [], ◌∷◌, length, get_or, drop, Some, None, Ok, Option, Result, sym, ap, ◌∙◌, subst, inl, inr, arith, length-drop}
-use Rattle.std.proofs.lemmas.List.{drop_all, drop_more}
+use Rattle.std.proofs.Common.{◌≡◌, ℕ, suc, ◌+◌, ◌≤◌, leb, List, [], ◌∷◌, length, drop, Some, None, Ok, Option, Result, sym, ap, subst, inl, inr, arith, length-drop}
+use Rattle.std.proofs.lemmas.List.{drop_all}
 use Rattle.std.proofs.lemmas.Bool.{cond_both, cases_lt, leb-true}
 use Rattle.path.specs.declared.refusal.Reason.{Reason}
 use Rattle.codec.specs.declared.item.Item.{Item}
-use Rattle.codec.specs.Reading.{width_of, item_of, asked, taken, read, found, first, Within}
+use Rattle.codec.specs.Reading.{width_of, item_of, asked, taken, found, first, Within}
 
--- at a place in a row: past its end, and at a letter with the operands after it
-pub first_past : (bytes : List ℕ) (i : ℕ) → length bytes ≤ i → Ok None ≡ first (drop i bytes)
+-- past the end of a row
+first_past : (bytes : List ℕ) (i : ℕ) → length bytes ≤ i → Ok None ≡ first (drop i bytes)
 first_past bytes i h = sym (ap first (drop_all i bytes h))
-
-pub first_at : (bytes : List ℕ) (i : ℕ) {r : Result (Item × ℕ) Reason} → i < length bytes → r ≡ read (get_or bytes i 0) (drop (i + 1) bytes) → found r ≡ first (drop i bytes)
-first_at bytes i h e = ap found e ∙ sym (ap first (drop_more bytes i 0 h))
 
 taken_within : (place n : ℕ) (o : Option Item) (w : ℕ) → place + (1 + w) ≤ n → Within place n (found (taken o (1 + w)))
 taken_within place n None w h = tt

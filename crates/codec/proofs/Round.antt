@@ -12,9 +12,10 @@ use Rattle.path.specs.declared.style.Join.TheVariants.{Bevel, Miter}
 use Rattle.path.specs.declared.style.Cap.{Cap}
 use Rattle.path.specs.declared.style.Cap.TheVariants as cap-is
 use Rattle.path.specs.declared.style.Cap.TheVariants.{Butt, Square}
+use Rattle.path.specs.Styles.{joins, caps, join_number, cap_number}
 use Rattle.codec.specs.declared.item.Item.{Item}
 use Rattle.codec.specs.declared.item.Item.TheVariants.{Width, Join, MiterLimit, StartCap, EndCap, Offset, Dash, Path}
-use Rattle.codec.specs.Spelling.{Fitting, float, joins, caps, join_number, cap_number, spelled}
+use Rattle.codec.specs.Spelling.{Fitting, float, spelled}
 use Rattle.codec.specs.Reading.{Shape, number, choice, one_point, two_points, three_points, nothing, size, made, float_at, point_at, asked, found, first}
 
 -- four digits to the base 256

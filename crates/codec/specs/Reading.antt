@@ -7,9 +7,9 @@ use Rattle.path.specs.declared.geometry.Vector.{Vector}
 use Rattle.path.specs.declared.command.Command.TheVariants.{MoveTo, LineTo, CurveTo, QuadTo, Close}
 use Rattle.path.specs.declared.refusal.Reason.{Reason}
 use Rattle.path.specs.declared.refusal.Reason.TheVariants.{UnknownLetter, MissingOperands, UnknownShape}
+use Rattle.path.specs.Styles.{joins, caps}
 use Rattle.codec.specs.declared.item.Item.{Item}
 use Rattle.codec.specs.declared.item.Item.TheVariants.{Width, Join, MiterLimit, StartCap, EndCap, Offset, Dash, Path}
-use Rattle.codec.specs.Spelling.{joins, caps}
 
 -- what follows a letter, and the item that it makes: a number, a byte that picks one of a few items, points, or nothing
 pub data Shape : Type 0 where
@@ -79,11 +79,6 @@ width_of c = option_map size (shape c)
 
 abbrev pub item_of : ℕ → List ℕ → Option Item
 item_of c bytes = made_by (shape c) bytes
-
--- the n bytes that follow a known letter are all there
-abbrev pub Enough : Option ℕ → List ℕ → Type 0
-Enough None bytes = Unit {0}
-Enough (Some n) bytes = n ≤ length bytes
 
 -- an item with the number of its bytes, its letter among them
 abbrev pub taken : Option Item → ℕ → Result (Item × ℕ) Reason

@@ -4,10 +4,7 @@ use Rattle.std.specs.Float.{nan, binary32}
 use Rattle.std.specs.Float.Ieee.{fits, to_bits}
 use Rattle.path.specs.declared.command.Command.{Command}
 use Rattle.path.specs.declared.command.Command.TheVariants.{MoveTo, LineTo, CurveTo, QuadTo, Close}
-use Rattle.path.specs.declared.style.Join.{Join}
-use Rattle.path.specs.declared.style.Join.TheVariants as join
-use Rattle.path.specs.declared.style.Cap.{Cap}
-use Rattle.path.specs.declared.style.Cap.TheVariants as cap-is
+use Rattle.path.specs.Styles.{join_number, cap_number}
 use Rattle.codec.specs.declared.item.Item.{Item}
 use Rattle.codec.specs.declared.item.Item.TheVariants as item
 
@@ -27,23 +24,6 @@ letter (item.EndCap k) = 69  -- E
 letter (item.Offset x) = 79  -- O
 letter (item.Dash x) = 68  -- D
 letter (item.Path c) = letter_of c
-
--- the joins and the caps in the order of their numbers
-abbrev pub joins : List Join
-joins = join.Bevel ∷ join.Miter ∷ join.Round ∷ []
-
-abbrev pub caps : List Cap
-caps = cap-is.Butt ∷ cap-is.Square ∷ cap-is.Round ∷ []
-
-abbrev pub join_number : Join → ℕ
-join_number join.Bevel = 0
-join_number join.Miter = 1
-join_number join.Round = 2
-
-abbrev pub cap_number : Cap → ℕ
-cap_number cap-is.Butt = 0
-cap_number cap-is.Square = 1
-cap_number cap-is.Round = 2
 
 -- four bytes, high byte first
 abbrev pub word : ℕ → List ℕ

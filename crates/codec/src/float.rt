@@ -3,14 +3,15 @@ ghost use Rattle.std.specs.Float.{binary32};
 
 use std::num::{f32_from_bits_with_nan, f32_to_bits_with_nan};
 
-/// The bits by which a number is written; every NaN has the bits 7FC00000.
+/// The bits by which a number is written; every NaN has the bits 7FC00000, which `to_bits` leaves open.
 pub fn bits_of(x: f32) -> u32
     ensures { result ≡ to_bits binary32 x }
 {
     f32_to_bits_with_nan(x)
 }
 
-/// The number that the bits stand for; each of the NaN patterns stands for NaN.
+/// The number that the bits stand for; each of the NaN patterns stands for NaN, as `from_bits` does not
+/// say.
 pub fn float_of(bits: u32) -> f32
     ensures { result ≡ from_bits binary32 bits }
 {

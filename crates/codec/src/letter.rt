@@ -4,6 +4,7 @@ ghost use Rattle.codec.specs.Spelling.{letter_of};
 use path::command::Command;
 
 /// The letter by which a job tells a command.
+// A function, since `From` between types of other crates can't stand here.
 pub fn command_letter(command: Command) -> char
     ensures { result ≡ letter_of command }
 {

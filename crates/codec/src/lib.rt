@@ -4,4 +4,3 @@
 pub mod float;
 pub mod item;
 pub mod letter;
-pub mod shape;

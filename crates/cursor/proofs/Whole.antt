@@ -19,7 +19,7 @@ use Rattle.segments.specs.Marks.{marked, after}
 use Rattle.segments.specs.Pieces.{to_segment}
 use Rattle.cursor.specs.declared.subpath.Subpath.{Subpath}
 use Rattle.cursor.specs.Subpaths.{needs_line, begun}
-use Rattle.cursor.specs.Machines.{Machine, machine, Turn, mark_read, mark_given, cut_to, whole, curved, read, read_questions}
+use Rattle.cursor.specs.Machines.{Machine, machine, Turn, mark_read, mark_given, cut_to, curved, read, read_questions}
 use Rattle.cursor.specs.Drawings.{Event, asks, gives, pieces_given, waiting, rested, drawing, drawn_whole, given_by, Run, run, begin_with, runs}
 use Rattle.cursor.specs.Cursors.{fresh}
 use Rattle.cursor.specs.Laws.{Each, Marked, NoEnd, together, LawfulDrawing}
@@ -69,10 +69,6 @@ end_marked : (closing : Bool) → Each Marked (cond closing (End true ∷ []) []
 end_marked true = (tt, tt)
 end_marked false = tt
 
-either_marked : (b : Bool) (x y : Option Segment) → Each Marked (option_to_list x) → Each Marked (option_to_list y) → Each Marked (option_to_list (cond b x y))
-either_marked true x y p q = p
-either_marked false x y p q = q
-
 each_append : {X : Type 0} (P : X → Type 0) (xs ys : List X) → Each P xs → Each P ys → Each P (xs ++ ys)
 each_append P [] ys h k = k
 each_append P (x ∷ xs) ys h k = (h.0, each_append P xs ys h.1 k)
@@ -80,12 +76,20 @@ each_append P (x ∷ xs) ys h k = (h.0, each_append P xs ys h.1 k)
 small_after : (i : SegmentId) → (after i).mark < 255
 small_after i = cond_both (leb 254 i.mark) (marked 0) (marked (i.mark + 1)) (λ (j : SegmentId). j.mark < 255) (λ e. omega arith) (λ e. omega (arith, leb-false 254 i.mark e))
 
-small_either : (b : Bool) (i j : SegmentId) → i.mark < 255 → j.mark < 255 → (cond b i j).mark < 255
-small_either true i j p q = p
-small_either false i j p q = q
+abbrev Small : SegmentId → Type 0
+Small i = i.mark < 255
 
-piece_marked : (i : SegmentId) (k : CubicCurve) → i.mark < 255 → Each Marked (option_to_list (to_segment i k))
-piece_marked i k h = either_marked (two_legs_near k merge_epsilon) _ _ (either_marked (near_by k.a k.d merge_epsilon) _ _ tt (h, tt)) (h, tt)
+abbrev MaybeMarked : Option Segment → Type 0
+MaybeMarked o = Each Marked (option_to_list o)
+
+read_small : (m : Machine) → Small m.id → Small (mark_read m)
+read_small m h = cond_both m.splitting _ _ Small (λ _. small_after m.id) (λ _. h)
+
+given_small : (m : Machine) (gave : Bool) → Small m.id → Small (mark_given m gave)
+given_small m gave h = cond_both (m.splitting || gave) _ _ Small (λ _. small_after m.id) (λ _. h)
+
+piece_marked : (i : SegmentId) (k : CubicCurve) → Small i → MaybeMarked (to_segment i k)
+piece_marked i k h = cond_both (two_legs_near k merge_epsilon) _ _ MaybeMarked (λ _. cond_both (near_by k.a k.d merge_epsilon) _ _ MaybeMarked (λ _. tt) (λ _. (h, tt))) (λ _. (h, tt))
 
 pieces_marked : (i : SegmentId) (ks : List CubicCurve) → i.mark < 255 → Each Marked (pieces_given i ks)
 unfolding pieces_given
@@ -94,34 +98,21 @@ pieces_marked i (k ∷ ks) h = each_append Marked (option_to_list (to_segment i 
 
 -- what a command gives is marked below 255, and so is the machine after it
 abbrev TurnMarked : Turn → Type 0
-TurnMarked t = Each Marked (option_to_list t.gave) × (t.after.id.mark < 255)
+TurnMarked t = MaybeMarked t.gave × Small t.after.id
 
-turn_either : (b : Bool) (t u : Turn) → TurnMarked t → TurnMarked u → TurnMarked (cond b t u)
-turn_either true t u p q = p
-turn_either false t u p q = q
+cut_marked : (m : Machine) (p : Vector) (ks : List CubicCurve) → Small m.id → TurnMarked (cut_to m p ks)
+cut_marked m p [] h = (tt, given_small m false h)
+cut_marked m p (k ∷ ks) h = (piece_marked (mark_read m) k (read_small m h), given_small m (is_some (to_segment (mark_read m) k)) h)
 
-cut_marked : (m : Machine) (p : Vector) (ks : List CubicCurve) → m.id.mark < 255 → TurnMarked (cut_to m p ks)
-cut_marked m p [] h = (tt, small_either (m.splitting || false) _ _ (small_after m.id) h)
-cut_marked m p (k ∷ ks) h = (
-  piece_marked (mark_read m) k (small_either m.splitting _ _ (small_after m.id) h),
-  small_either (m.splitting || is_some (to_segment (mark_read m) k)) _ _ (small_after m.id) h,
-)
+curve_marked : (F : Functions) (m : Machine) (k : CubicCurve) (p : Vector) → Small m.id → TurnMarked (curved F m k p)
+curve_marked F m k p h = cond_both m.splitting _ _ TurnMarked (λ _. cut_marked m p (cut_up F k) h) (λ _. ((read_small m h, tt), given_small m true h))
 
-mark_small : (m : Machine) (gave : Bool) → m.id.mark < 255 → (mark_given m gave).mark < 255
-mark_small m gave h = small_either (m.splitting || gave) _ _ (small_after m.id) h
-
-read_small : (m : Machine) → m.id.mark < 255 → (mark_read m).mark < 255
-read_small m h = small_either m.splitting _ _ (small_after m.id) h
-
-curve_marked : (F : Functions) (m : Machine) (k : CubicCurve) (p : Vector) → m.id.mark < 255 → TurnMarked (curved F m k p)
-curve_marked F m k p h = turn_either m.splitting (cut_to m p (cut_up F k)) (whole m k p) (cut_marked m p (cut_up F k) h) ((read_small m h, tt), mark_small m true h)
-
-read_marked : (F : Functions) (m : Machine) (c : Command) → m.id.mark < 255 → TurnMarked (read F m c)
-read_marked F m (MoveTo p) h = (either_marked m.subpath.last_was_end None (Some (End false)) tt (tt, tt), mark_small m _ h)
-read_marked F m (LineTo p) h = turn_either (near_by m.subpath.prev p merge_epsilon) _ _ (tt, mark_small m false h) ((read_small m h, tt), mark_small m true h)
+read_marked : (F : Functions) (m : Machine) (c : Command) → Small m.id → TurnMarked (read F m c)
+read_marked F m (MoveTo p) h = (cond_both m.subpath.last_was_end _ _ MaybeMarked (λ _. tt) (λ _. (tt, tt)), given_small m _ h)
+read_marked F m (LineTo p) h = cond_both (near_by m.subpath.prev p merge_epsilon) _ _ TurnMarked (λ _. (tt, given_small m false h)) (λ _. ((read_small m h, tt), given_small m true h))
 read_marked F m (CurveTo p q r) h = curve_marked F m (curve m.subpath.prev p q r) r h
 read_marked F m (QuadTo p q) h = curve_marked F m (from_quadratic m.subpath.prev p q) q h
-read_marked F m Close h = turn_either (needs_line m.subpath) _ _ ((read_small m h, tt), mark_small m true h) ((tt, tt), mark_small m true h)
+read_marked F m Close h = cond_both (needs_line m.subpath) _ _ TurnMarked (λ _. ((read_small m h, tt), given_small m true h)) (λ _. ((tt, tt), given_small m true h))
 
 waiting_marked : (m : Machine) → m.id.mark < 255 → Each Marked (waiting m)
 waiting_marked m h = each_append Marked (cond m.closing (End true ∷ []) []) (pieces_given m.id m.pending) (end_marked m.closing) (pieces_marked m.id m.pending h)

@@ -1,11 +1,13 @@
-ghost use Rattle.std.specs.Prelude.{◌≡◌};
+ghost use Rattle.std.specs.Prelude.{◌≡◌, cond, is_some};
 ghost use Rattle.cursor.specs.Subpaths.{begun, drawn, turned_back, returned, stopped, needs_line};
 
 use curves::curve::MERGE_EPSILON;
 use path::geometry::Point;
+use segments::segment::Segment;
 
 // How far a subpath has come: where it began, where its last segment ended, how many segments it
-// has (0 again after an end that no line led to), and whether the last thing given was an end.
+// has (0 again after an end that no line led to), and whether the last thing given was an end: a flag,
+// since both kinds of subpath have all the rest.
 #[derive(Clone, Copy)]
 pub(crate) struct Subpath {
     pub(crate) start: Point,
@@ -32,11 +34,18 @@ impl Subpath {
         ensures { result ≡ drawn self to }
     {
         Subpath {
-            start: self.start,
             prev: to,
             count: self.count.saturating_add(1),
             last_was_end: false,
+            ..self
         }
+    }
+
+    // With one segment more where something is given.
+    pub(crate) fn draw_given(self, given: Option<Segment>, to: Point) -> Subpath
+        ensures { result ≡ cond (is_some given) (drawn self to) self }
+    {
+        if given.is_some() { self.draw(to) } else { self }
     }
 
     // Whether a close has to draw a line: nothing was drawn, or the start is not near.
@@ -51,10 +60,8 @@ impl Subpath {
         ensures { result ≡ turned_back self }
     {
         Subpath {
-            start: self.start,
             prev: self.start,
-            count: self.count,
-            last_was_end: self.last_was_end,
+            ..self
         }
     }
 
@@ -70,10 +77,8 @@ impl Subpath {
         ensures { result ≡ stopped self }
     {
         Subpath {
-            start: self.start,
-            prev: self.prev,
-            count: self.count,
             last_was_end: true,
+            ..self
         }
     }
 }

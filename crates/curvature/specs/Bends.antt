@@ -6,8 +6,7 @@ use Rattle.maths.specs.Functions.{Functions}
 use Rattle.maths.specs.Questions.{Question}
 use Rattle.curves.specs.declared.curve.Curve.{Curve}
 use Rattle.curves.specs.Curves.{two, three}
-use Rattle.curvature.specs.declared.roots.Roots.{Roots}
-use Rattle.curvature.specs.Roots.{roots, questions}
+use Rattle.curvature.specs.Roots.{Roots, roots, questions}
 
 -- of one coordinate: the first derivative times the second, highest power first
 abbrev pub coefficients : Float → Float → Float → Float → List Float

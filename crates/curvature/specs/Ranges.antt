@@ -1,16 +1,20 @@
 -- What every cubic's roots are: one to three, each NaN or from 0 to 1.
-use Rattle.std.specs.Prelude.{◌≤◌, ◌&&◌, ◌||◌, T, is_nan, slice_index_or, Float}
+use Rattle.std.specs.Prelude.{◌≤◌, ◌&&◌, ◌||◌, T, List, ◌++◌, length, is_nan, slice_index_or, Float}
 use Rattle.std.specs.Float.{nan}
 use Rattle.std.specs.Float.Ieee.{le}
 use Rattle.numbers.specs.Arithmetic.{zero, one}
-use Rattle.curvature.specs.declared.roots.Roots.{Roots}
+use Rattle.fixed.specs.Places.{Places}
 
 abbrev pub Within : Float → Type 0
 Within t = T (is_nan t || (le zero t && le t one))
 
-pub record RootsWithin (r : Roots) : Type 0 where
-  pub some : 1 ≤ r.count
-  pub few : r.count ≤ 3
-  pub first : Within (slice_index_or r.ts 0 nan)
-  pub second : Within (slice_index_or r.ts 1 nan)
-  pub third : Within (slice_index_or r.ts 2 nan)
+-- the roots, and what the places after them hold
+abbrev pub all_places : Places Float → List Float
+all_places r = r.items ++ r.spare
+
+pub record RootsWithin (r : Places Float) : Type 0 where
+  pub some : 1 ≤ length r.items
+  pub few : length r.items ≤ 3
+  pub first : Within (slice_index_or (all_places r) 0 nan)
+  pub second : Within (slice_index_or (all_places r) 1 nan)
+  pub third : Within (slice_index_or (all_places r) 2 nan)

@@ -8,8 +8,12 @@ use Rattle.maths.specs.Functions.{Functions}
 use Rattle.maths.specs.Questions.{Question}
 use Rattle.maths.specs.declared.host.Function.TheVariants.{Cosine, ArcCosine, Power}
 use Rattle.curves.specs.Curves.{two, three}
+use Rattle.fixed.specs.Places.{Places}
 use Rattle.curvature.specs.declared.roots.Reduced.{Reduced}
-use Rattle.curvature.specs.declared.roots.Roots.{Roots}
+
+-- one to three roots, in order, and the places after them
+abbrev pub Roots : Type 0
+Roots = Places Float
 
 abbrev pub saturated : Float → Float
 saturated x = kept_within x zero one
@@ -53,14 +57,14 @@ sorted ts =
     third.0 ∷ third.1 ∷ second.1 ∷ []
 
 abbrev pub single : Float → Roots
-single x = record { ts = x ∷ zero ∷ zero ∷ []; count = 1 }
+single x = record { items = x ∷ []; spare = zero ∷ zero ∷ [] }
 
 abbrev pub pair : Float → Float → Roots
-pair x y = record { ts = x ∷ y ∷ zero ∷ []; count = 2 }
+pair x y = record { items = x ∷ y ∷ []; spare = zero ∷ [] }
 
 -- where the first two are equal the third goes with the second
 abbrev pub distinct3 : Float → Float → Float → Roots
-distinct3 x y z = cond (eq x y) (cond (is_nan z) (pair x z) (single x)) (cond (eq y z) (pair x y) (record { ts = x ∷ y ∷ z ∷ []; count = 3 }))
+distinct3 x y z = cond (eq x y) (cond (is_nan z) (pair x z) (single x)) (cond (eq y z) (pair x y) (record { items = x ∷ y ∷ z ∷ []; spare = [] }))
 
 abbrev pub distinct : List Float → Roots
 distinct ts = distinct3 (slice_index_or ts 0 nan) (slice_index_or ts 1 nan) (slice_index_or ts 2 nan)

@@ -5,12 +5,12 @@ ghost use Rattle.curvature.specs.Bends.{coefficients, summed, bend, bends, bend_
 
 use crate::roots::{Roots, solve};
 use curves::curve::Curve;
-use maths::host::{MathsHost, MathsMeaning};
+use maths::host::MathsHost;
 
 /// The times at which a curve bends most or least, from 0 to 1.
 pub fn max_curvature<K: MathsHost>(curve: Curve, host: &mut K) -> Roots
-    ensures answer { result ≡ bends (K.MathsMeaning.functions host.old) curve }
-    ensures host { host.new ≡ all_asked K.MathsMeaning.asked host.old (bend_questions (K.MathsMeaning.functions host.old) curve) }
+    ensures answer { result ≡ bends (K.functions host.old) curve }
+    ensures host { host.new ≡ all_asked K.asked host.old (bend_questions (K.functions host.old) curve) }
     ensures within { RootsWithin result }
 {
     solve(bend(curve), host)
@@ -22,6 +22,7 @@ fn bend(curve: Curve) -> [f32; 4]
 {
     let x = coefficients(curve.a.x, curve.b.x, curve.c.x, curve.d.x);
     let y = coefficients(curve.a.y, curve.b.y, curve.c.y, curve.d.y);
+    // Four sums written out: `array::from_fn` would take them by index.
     [x[0] + y[0], x[1] + y[1], x[2] + y[2], x[3] + y[3]]
 }
 

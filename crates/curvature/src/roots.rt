@@ -1,20 +1,17 @@
-ghost use Rattle.std.specs.Prelude.{◌≡◌, [], ◌∷◌};
+ghost use Rattle.std.specs.Prelude.{◌≡◌};
 ghost use Rattle.maths.specs.Questions.{all_asked};
-ghost use Rattle.maths.specs.declared.host.Function.TheVariants.{Cosine};
+ghost use Rattle.maths.specs.declared.host.Function.TheVariants.{Cosine, ArcCosine};
 ghost use Rattle.numbers.specs.Arithmetic.{◌⊘◌};
 ghost use Rattle.curves.specs.Curves.{three};
 ghost use Rattle.curvature.specs.Ranges.{RootsWithin};
-ghost use Rattle.curvature.specs.Roots.{saturated, reduced, turned, swapped, sorted, distinct, trisected, three_questions, cosine_asked, power_asked, from_power, has_three_roots, only_root, one_question, single, pair, roots_of, questions_of, roots, questions};
+ghost use Rattle.curvature.specs.Roots.{saturated, reduced, turned, swapped, sorted, distinct, trisected, three_questions, cosine_asked, power_asked, from_power, has_three_roots, only_root, one_question, roots_of, questions_of, roots, questions};
 
-use maths::host::{MathsHost, MathsMeaning};
+use fixed::FixedList;
+use maths::host::MathsHost;
 use numbers::{clamp, sqrt};
 
 /// One to three roots, in order; the places after them are 0.
-#[derive(Clone, Copy)]
-pub struct Roots {
-    pub ts: [f32; 3],
-    pub count: usize,
-}
+pub type Roots = FixedList<f32, 3>;
 
 // A cubic by what its roots are worked out from.
 #[derive(Clone, Copy)]
@@ -25,101 +22,116 @@ struct Reduced {
 }
 
 /// The roots of the cubic with these coefficients, highest first, each kept within 0 and 1.
+#[tactic(auto, using(crate::proofs::Within::roots_within))]
 pub fn solve<K: MathsHost>(coeff: [f32; 4], host: &mut K) -> Roots
-    ensures answer { result ≡ roots (K.MathsMeaning.functions host.old) coeff }
-    ensures host { host.new ≡ all_asked K.MathsMeaning.asked host.old (questions (K.MathsMeaning.functions host.old) coeff) }
+    ensures answer { result ≡ roots (K.functions host.old) coeff }
+    ensures host { host.new ≡ all_asked K.asked host.old (questions (K.functions host.old) coeff) }
     ensures within { RootsWithin result }
 {
-    reduced_roots(reduce(coeff), host)
+    Reduced::new(coeff).roots(host)
 }
 
-fn reduced_roots<K: MathsHost>(cubic: Reduced, host: &mut K) -> Roots
-    ensures answer { result ≡ roots_of (K.MathsMeaning.functions host.old) cubic }
-    ensures host { host.new ≡ all_asked K.MathsMeaning.asked host.old (questions_of (K.MathsMeaning.functions host.old) cubic) }
-{
-    if has_three_roots(cubic) {
-        three_roots(cubic, host)
-    } else {
-        one_root(cubic, host)
+impl Reduced {
+    // The cubic with these coefficients, highest first.
+    fn new(coeff: [f32; 4]) -> Reduced
+        ensures { result ≡ reduced coeff }
+    {
+        let [cubed, squared, first, rest] = coeff;
+        let i = 1.0 / cubed;
+        let a = squared * i;
+        let b = first * i;
+        let c = rest * i;
+        Reduced {
+            a,
+            q: (a * a - b * 3.0) / 9.0,
+            r: (2.0 * a * a * a - 9.0 * a * b + 27.0 * c) / 54.0,
+        }
     }
-}
 
-fn has_three_roots(cubic: Reduced) -> bool
-    ensures { result ≡ has_three_roots cubic }
-{
-    cubic.r * cubic.r - cubic.q * cubic.q * cubic.q < 0.0
+    fn roots<K: MathsHost>(self, host: &mut K) -> Roots
+        ensures answer { result ≡ roots_of (K.functions host.old) self }
+        ensures host { host.new ≡ all_asked K.asked host.old (questions_of (K.functions host.old) self) }
+    {
+        if self.has_three_roots() {
+            self.three_roots(host)
+        } else {
+            self.one_root(host)
+        }
+    }
+
+    fn has_three_roots(self) -> bool
+        ensures { result ≡ has_three_roots self }
+    {
+        self.r * self.r - self.q * self.q * self.q < 0.0
+    }
+
+    // The root at a third of an angle.
+    fn turned<K: MathsHost>(self, angle: f32, host: &mut K) -> f32
+        ensures answer { result ≡ turned (K.functions host.old) self angle }
+        ensures host { host.new ≡ K.asked host.old Cosine (angle ⊘ three) }
+        ensures same { K.functions host.new ≡ K.functions host.old }
+    {
+        let cosine = host.cos(angle / 3.0);
+        satf32(-2.0 * sqrt(self.q) * cosine - self.a / 3.0)
+    }
+
+    // The angle at whose thirds the three roots are.
+    fn theta<K: MathsHost>(self, host: &mut K) -> f32
+        ensures answer { result ≡ (K.functions host.old).arc_cosine (cosine_asked self) }
+        ensures host { host.new ≡ K.asked host.old ArcCosine (cosine_asked self) }
+        ensures same { K.functions host.new ≡ K.functions host.old }
+    {
+        host.acos(self.cosine())
+    }
+
+    fn three_roots<K: MathsHost>(self, host: &mut K) -> Roots
+        ensures answer { result ≡ trisected (K.functions host.old) self }
+        ensures host { host.new ≡ all_asked K.asked host.old (three_questions (K.functions host.old) self) }
+    {
+        let theta = self.theta(host);
+        let x = self.turned(theta, host);
+        let y = self.turned(theta + 6.2831855, host);
+        let z = self.turned(theta - 6.2831855, host);
+        distinct(sort([x, y, z]))
+    }
+
+    fn one_root<K: MathsHost>(self, host: &mut K) -> Roots
+        ensures answer { result ≡ only_root (K.functions host.old) self }
+        ensures host { host.new ≡ all_asked K.asked host.old (one_question self) }
+    {
+        let size = host.powf_third(self.power_argument());
+        FixedList::filled(0.0, &[self.from_power(size)])
+    }
+
+    fn power_argument(self) -> f32
+        ensures { result ≡ power_asked self }
+    {
+        self.r.abs() + sqrt(self.r * self.r - self.q * self.q * self.q)
+    }
+
+    fn from_power(self, size: f32) -> f32
+        ensures { result ≡ from_power self size }
+    {
+        let root = if self.r > 0.0 { -size } else { size };
+        let root = if root != 0.0 {
+            root + self.q / root
+        } else {
+            root
+        };
+        satf32(root - self.a / 3.0)
+    }
+
+    fn cosine(self) -> f32
+        ensures { result ≡ cosine_asked self }
+    {
+        satf32(self.r / sqrt(self.q * self.q * self.q))
+    }
 }
 
 fn satf32(x: f32) -> f32
     ensures { result ≡ saturated x }
 {
     clamp(x, 0.0, 1.0)
-}
-
-fn reduce(coeff: [f32; 4]) -> Reduced
-    ensures { result ≡ reduced coeff }
-{
-    let i = 1.0 / coeff[0];
-    let a = coeff[1] * i;
-    let b = coeff[2] * i;
-    let c = coeff[3] * i;
-    Reduced {
-        a,
-        q: (a * a - b * 3.0) / 9.0,
-        r: (2.0 * a * a * a - 9.0 * a * b + 27.0 * c) / 54.0,
-    }
-}
-
-// The root at a third of an angle.
-fn turned<K: MathsHost>(cubic: Reduced, angle: f32, host: &mut K) -> f32
-    ensures answer { result ≡ turned (K.MathsMeaning.functions host.old) cubic angle }
-    ensures host { host.new ≡ K.MathsMeaning.asked host.old Cosine (angle ⊘ three) }
-{
-    let cosine = host.cos(angle / 3.0);
-    satf32(-2.0 * sqrt(cubic.q) * cosine - cubic.a / 3.0)
-}
-
-fn three_roots<K: MathsHost>(cubic: Reduced, host: &mut K) -> Roots
-    ensures answer { result ≡ trisected (K.MathsMeaning.functions host.old) cubic }
-    ensures host { host.new ≡ all_asked K.MathsMeaning.asked host.old (three_questions (K.MathsMeaning.functions host.old) cubic) }
-{
-    let theta = host.acos(cosine(cubic));
-    let x = turned(cubic, theta, host);
-    let y = turned(cubic, theta + 6.2831855, host);
-    let z = turned(cubic, theta - 6.2831855, host);
-    distinct(sort([x, y, z]))
-}
-
-fn one_root<K: MathsHost>(cubic: Reduced, host: &mut K) -> Roots
-    ensures answer { result ≡ only_root (K.MathsMeaning.functions host.old) cubic }
-    ensures host { host.new ≡ all_asked K.MathsMeaning.asked host.old (one_question cubic) }
-{
-    let size = host.powf_third(power_argument(cubic));
-    single(from_power(cubic, size))
-}
-
-fn power_argument(cubic: Reduced) -> f32
-    ensures { result ≡ power_asked cubic }
-{
-    cubic.r.abs() + sqrt(cubic.r * cubic.r - cubic.q * cubic.q * cubic.q)
-}
-
-fn from_power(cubic: Reduced, size: f32) -> f32
-    ensures { result ≡ from_power cubic size }
-{
-    let root = if cubic.r > 0.0 { -size } else { size };
-    let root = if root != 0.0 {
-        root + cubic.q / root
-    } else {
-        root
-    };
-    satf32(root - cubic.a / 3.0)
-}
-
-fn cosine(cubic: Reduced) -> f32
-    ensures { result ≡ cosine_asked cubic }
-{
-    satf32(cubic.r / sqrt(cubic.q * cubic.q * cubic.q))
 }
 
 // Two neighbours, swapped where the later is less.
@@ -129,6 +141,7 @@ fn swap(x: f32, y: f32) -> (f32, f32)
     if y < x { (y, x) } else { (x, y) }
 }
 
+// The library's sorts promise an order only where all numbers have one; here NaN is swapped with nothing.
 fn sort(ts: [f32; 3]) -> [f32; 3]
     ensures { result ≡ sorted ts }
 {
@@ -145,31 +158,14 @@ fn distinct(ts: [f32; 3]) -> Roots
 {
     let [x, y, z] = ts;
     if x == y {
-        if z.is_nan() { pair(x, z) } else { single(x) }
-    } else if y == z {
-        pair(x, y)
-    } else {
-        Roots {
-            ts: [x, y, z],
-            count: 3,
+        if z.is_nan() {
+            FixedList::filled(0.0, &[x, z])
+        } else {
+            FixedList::filled(0.0, &[x])
         }
-    }
-}
-
-fn single(x: f32) -> Roots
-    ensures { result ≡ single x }
-{
-    Roots {
-        ts: [x, 0.0, 0.0],
-        count: 1,
-    }
-}
-
-fn pair(x: f32, y: f32) -> Roots
-    ensures { result ≡ pair x y }
-{
-    Roots {
-        ts: [x, y, 0.0],
-        count: 2,
+    } else if y == z {
+        FixedList::filled(0.0, &[x, y])
+    } else {
+        FixedList::filled(0.0, &ts)
     }
 }

@@ -15,7 +15,7 @@ const FLAT_ENOUGH: f32 = 0.8071068;
 const LEVELS: u8 = 5;
 
 /// A cubic curve from a to d, with the control points b and c.
-#[derive(Clone, Copy)]
+#[derive(Clone, Copy, Debug, PartialEq)]
 pub struct Curve {
     pub a: Point,
     pub b: Point,
@@ -38,7 +38,7 @@ impl Curve {
         Curve { a, b, c, d }
     }
 
-    /// The cubic curve that a quadratic one is.
+    /// The cubic curve that a quadratic one is, by the Rust's name.
     pub fn from_quadratic(a: Point, b: Point, c: Point) -> Curve
         ensures { result ≡ from_quadratic a b c }
     {
@@ -106,6 +106,7 @@ impl Curve {
         let ab = self.a.nearly_eq_by(self.b, tolerance);
         let bc = self.b.nearly_eq_by(self.c, tolerance);
         let cd = self.c.nearly_eq_by(self.d, tolerance);
+        // a sum of flags, which a filter and a count would not make plainer
         ab as u8 + bc as u8 + cd as u8 >= 2
     }
 
@@ -171,8 +172,8 @@ impl Curve {
         SegmentTime { distance, time }
     }
 
-    // The distance and the time, as far as this piece goes; it lasts t, and is halved at most so many
-    // levels deep.
+    // The distance and the time, as a pair by rule, as far as this piece goes; it lasts t, and is halved
+    // at most so many levels deep.
     fn time_impl(self, distance: f32, tolerance: f32, t: f32, levels: u8) -> (f32, f32)
         ensures { result ≡ timed levels self distance tolerance t }
     {

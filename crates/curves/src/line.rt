@@ -5,14 +5,14 @@ use path::geometry::Point;
 
 /// How far along a segment a distance lies: the distance, at most the segment's length, and the time
 /// there, from 0 to 1.
-#[derive(Clone, Copy)]
+#[derive(Clone, Copy, Debug, PartialEq)]
 pub struct SegmentTime {
     pub distance: f32,
     pub time: f32,
 }
 
 /// A line from a to b.
-#[derive(Clone, Copy)]
+#[derive(Clone, Copy, Debug, PartialEq)]
 pub struct Line {
     pub a: Point,
     pub b: Point,

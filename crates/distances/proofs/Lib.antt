@@ -1,1 +1,1 @@
-mod Replays
+mod Chunks

@@ -7,7 +7,7 @@ use maths::table::Row;
 use std::num::f32_from_bits_with_nan;
 
 /// How far answers lie from what was expected.
-#[derive(Clone, Copy)]
+#[derive(Clone, Copy, Debug, PartialEq, Eq)]
 pub struct Figures {
     pub rows: u64,
     /// How many answers are equal bit for bit.
@@ -80,7 +80,8 @@ fn in_reach(f: Function, x: f32) -> bool
     x.abs() <= reach(f)
 }
 
-fn one_more(n: u64, counts: bool) -> u64
+/// A count with one more where `counts` holds; it stops at the greatest `u64`.
+pub fn one_more(n: u64, counts: bool) -> u64
     ensures { result ≡ one_more n counts }
 {
     if counts { n.saturating_add(1) } else { n }
@@ -88,8 +89,8 @@ fn one_more(n: u64, counts: bool) -> u64
 
 /// The figures of a host's answers to the rows of one function.
 pub fn replayed<K: MathsHost>(host: &mut K, f: Function, rows: &[Row]) -> Figures
-    ensures value { result ≡ replayed (K.MathsMeaning.functions host.old) f rows.now no_figures }
-    ensures host { host.new ≡ over (row_asked K.MathsMeaning.asked f) rows.now host.old }
+    ensures value { result ≡ replayed (K.functions host.old) f rows.now no_figures }
+    ensures host { host.new ≡ over (row_asked K.asked f) rows.now host.old }
 {
     let mut figures = Figures::new();
     for row in rows {
@@ -99,11 +100,11 @@ pub fn replayed<K: MathsHost>(host: &mut K, f: Function, rows: &[Row]) -> Figure
 }
 
 fn with_row<K: MathsHost>(host: &mut K, f: Function, row: Row, figures: Figures) -> Figures
-    ensures value { result ≡ with_row (K.MathsMeaning.functions host.old) f row figures }
-    ensures host { host.new ≡ row_asked K.MathsMeaning.asked f row host.old }
-    ensures same { K.MathsMeaning.functions host.new ≡ K.MathsMeaning.functions host.old }
+    ensures value { result ≡ with_row (K.functions host.old) f row figures }
+    ensures host { host.new ≡ row_asked K.asked f row host.old }
+    ensures same { K.functions host.new ≡ K.functions host.old }
 {
-    if row.function != f.number() {
+    if row.function != u8::from(f) {
         return figures;
     }
     let x = f32_from_bits_with_nan(row.argument);

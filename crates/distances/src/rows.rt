@@ -1,39 +1,31 @@
-ghost use Rattle.std.specs.Prelude.{◌≡◌, ◌+◌, ◌/◌, ◌≤◌, length, IfOk};
-ghost use Rattle.distances.specs.Rows.{word_at, row_at, rows_to};
+ghost use Rattle.std.specs.Prelude.{◌≡◌, ◌/◌, length, map, IfOk};
+ghost use Rattle.distances.specs.Rows.{row_at, rows_to};
 
 use maths::table::Row;
 use std::alloc::{AllocError, Global};
 
-const ROW_BYTES: usize = 9;
-
 /// The rows that the bytes hold, nine bytes each; a last piece of less than nine is left out.
+#[tactic(auto, using(crate::proofs::Chunks::rows_of_chunks))]
 pub fn decoded(heap: Global, bytes: &[u8]) -> Result<Vec<Row>, AllocError>
     ensures { IfOk result (λ v. v.items ≡ rows_to bytes.now (length bytes.now / 9)) }
 {
-    let mut rows = Vec::new(heap);
-    for k in 0..bytes.len() / ROW_BYTES {
-        rows.push(row_at(bytes, ROW_BYTES * k))?;
-    }
-    Ok(rows)
+    let (pieces, _) = bytes.as_chunks();
+    rows(heap, pieces)
 }
 
-fn row_at(bytes: &[u8], i: usize) -> Row
-    requires { i + 9 ≤ length bytes.now }
-    ensures { result ≡ row_at bytes.now i }
+fn rows(heap: Global, pieces: &[[u8; 9]]) -> Result<Vec<Row>, AllocError>
+    ensures { IfOk result (λ v. v.items ≡ map (λ p. row_at p 0) pieces.now) }
 {
-    let function = bytes[i];
-    let argument = word_at(bytes, i + 1);
-    let answer = word_at(bytes, i + 5);
+    pieces.iter().copied().map(row).collect(heap)
+}
+
+fn row(bytes: [u8; 9]) -> Row
+    ensures { result ≡ row_at bytes 0 }
+{
+    let [function, a, b, c, d, w, x, y, z] = bytes;
     Row {
         function,
-        argument,
-        answer,
+        argument: u32::from_be_bytes([a, b, c, d]),
+        answer: u32::from_be_bytes([w, x, y, z]),
     }
-}
-
-fn word_at(bytes: &[u8], i: usize) -> u32
-    requires { i + 4 ≤ length bytes.now }
-    ensures { result ≡ word_at bytes.now i }
-{
-    u32::from_be_bytes([bytes[i], bytes[i + 1], bytes[i + 2], bytes[i + 3]])
 }

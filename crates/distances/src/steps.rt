@@ -3,7 +3,8 @@ ghost use Rattle.distances.specs.Steps.{place, steps, same, gap, apart, close};
 
 use std::num::{f32_to_bits_with_nan, f32_to_f64_with_nan, saturating_f64_to_u64};
 
-/// How many units in the last place lie between two numbers. 0 and -0 are at one place, and NaN is
+/// How many units in the last place lie between two numbers, which are any two and no pair of their
+/// own. 0 and -0 are at one place, and NaN is
 /// far past infinity.
 pub fn steps(x: f32, y: f32) -> u64
     ensures { result ≡ steps x y }

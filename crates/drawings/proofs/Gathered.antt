@@ -1,5 +1,7 @@
 -- What a cursor gives, gathered call by call.
-use Rattle.std.proofs.Common.{◌≡◌, ℕ, Bool, List, [], ◌∷◌, ◌++◌, drop, Some, None, sym, refl, ap, ◌∙◌, subst, append_assoc, append-nil}
+use Rattle.std.proofs.Common.{◌≡◌, ℕ, Bool, List, [], ◌∷◌, length, drop, Some, None, Option, sym, refl, ap, ◌∙◌, arith}
+use Rattle.std.specs.Option.{MatchOption}
+use Rattle.std.specs.Iterator.{YieldsFirst, MakesProgress, item_count}
 use Rattle.maths.specs.Functions.{Functions}
 use Rattle.path.specs.declared.command.Command.{Command}
 use Rattle.segments.specs.declared.segment.Segment.{Segment}
@@ -15,20 +17,15 @@ pub none_yet : (F : Functions) (split : Bool) (cs : List Command) {m : Machine} 
 unfolding pieces_given pieces_drawn
 none_yet F split cs {m = m} {p = p} machine place = ap (λ (m : Machine). given_by (still F m (drop p cs))) machine ∙ ap (λ (p : ℕ). given_by (still F (fresh split) (drop p cs))) place
 
--- a call that gives a segment takes it from what is to come
-pub one_more : (F : Functions) {G : Functions} {m m' : Machine} {cs cs' : List Command} {s : Segment} (xs : List Segment) {ys all : List Segment} → G ≡ F → GivesHead G m cs (Some s) m' cs'
-    → ys ≡ xs ++ s ∷ [] → xs ++ given_by (still F m cs) ≡ all → ys ++ given_by (still F m' cs') ≡ all
-one_more F {m = m} {m' = m'} {cs = cs} {cs' = cs'} {s = s} xs {all = all} same gives more is =
-    let Head : Functions → Type 0 = λ F. GivesHead F m cs (Some s) m' cs' in
-    let rest = given_by (still F m' cs') in
-    let first : given_by (still F m cs) ≡ s ∷ rest = ap given_by (subst Head same gives).head ∙ given_asks (next_of F m cs).asked _ in
-    ap (λ l. l ++ rest) more ∙ append_assoc xs (s ∷ []) rest ∙ ap (λ l. xs ++ l) (sym first) ∙ is
+-- a call takes what it gives from what is to come; where it gives none nothing is left
+pub yields : {F F' : Functions} {m m' : Machine} {cs cs' : List Command} {x : Option Segment} → F' ≡ F → GivesHead F m cs x m' cs'
+    → MatchOption x ((given_by (still F m cs) ≡ []) × (given_by (still F' m' cs') ≡ [])) (λ s. given_by (still F m cs) ≡ s ∷ given_by (still F' m' cs'))
+yields {F = F} {m = m} {m' = m'} {cs = cs} {cs' = cs'} {x = Some s} same gives = ap given_by gives.head ∙ given_asks (next_of F m cs).asked _ ∙ ap (λ (G : Functions). s ∷ given_by (still G m' cs')) (sym same)
+yields {F = F} {m = m} {m' = m'} {cs = cs} {cs' = cs'} {x = None} same gives =
+    let nothing : given_by (still F m' cs') ≡ [] = ap given_by (gives.last refl) in
+    (ap given_by gives.head ∙ given_asks (next_of F m cs).asked _ ∙ nothing, ap (λ (G : Functions). given_by (still G m' cs')) same ∙ nothing)
 
--- a call that gives none leaves nothing to come
-pub no_more : (F : Functions) {G : Functions} {m m' : Machine} {cs cs' : List Command} (xs : List Segment) {all : List Segment} → G ≡ F → GivesHead G m cs None m' cs'
-    → xs ++ given_by (still F m cs) ≡ all → xs ≡ all
-no_more F {m = m} {m' = m'} {cs = cs} {cs' = cs'} xs same gives is =
-    let Head : Functions → Type 0 = λ F. GivesHead F m cs None m' cs' in
-    let head = subst Head same gives in
-    let nothing : given_by (still F m cs) ≡ [] = ap given_by head.head ∙ given_asks (next_of F m cs).asked _ ∙ ap given_by (head.last refl) in
-    sym (append-nil xs) ∙ ap (λ l. xs ++ l) (sym nothing) ∙ is
+-- so does any iterator that gives the first of what is to come
+pub progress : {S A : Type 0} (can : S → Type 0) (rest : S → List A) {s t : S} {r : Option A} → ((t : S) → can t) → YieldsFirst rest s r t → MakesProgress can (item_count rest) s r t
+progress can rest {t = t} {r = Some x} may h = record { on = λ _. (may t, tt, omega (arith, ap length h)); keeps = may t; rests = λ _. tt }
+progress can rest {r = None} may h = record { on = λ _. tt; keeps = tt; rests = λ _. tt }

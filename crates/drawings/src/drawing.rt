@@ -1,4 +1,5 @@
 ghost use Rattle.std.specs.Prelude.{◌≡◌, ◌+◌, length, IfSome};
+ghost use Rattle.std.specs.Iterator.{at_most};
 
 const ROW_BYTES: usize = 9;
 
@@ -10,9 +11,45 @@ pub(crate) struct Drawing<'a> {
     pub path: &'a [u8],
 }
 
-/// The drawing that the bytes begin with, and the bytes after it; none where it is damaged.
-/// Besides its rows and its path it takes nine bytes.
-pub(crate) fn first_drawing(bytes: &[u8]) -> Option<(Drawing<'_>, &[u8])>
+/// What is no drawing: it begins with neither 0 nor 1, or is cut short.
+#[derive(Clone, Copy, Debug, PartialEq, Eq)]
+pub(crate) struct Damaged;
+
+/// The drawings that the bytes hold, one after the other; nothing is read after a damaged one.
+#[derive(Drop)]
+pub(crate) struct Drawings<'a> {
+    bytes: &'a [u8],
+}
+
+impl<'a> Drawings<'a> {
+    pub(crate) fn new(bytes: &'a [u8]) -> Drawings<'a>
+        ensures { result ≡ record { bytes = bytes.entry } }
+    {
+        Drawings { bytes }
+    }
+}
+
+impl<'a> Iterator for Drawings<'a> {
+    type Item = Result<Drawing<'a>, Damaged>;
+
+    ghost remaining = { λ s. at_most (length s.bytes.now) };
+
+    fn next(&mut self) -> Option<Result<Drawing<'a>, Damaged>> {
+        if self.bytes.is_empty() {
+            return None;
+        }
+        let Some((drawing, rest)) = first_drawing(self.bytes) else {
+            self.bytes = &[];
+            return Some(Err(Damaged));
+        };
+        self.bytes = rest;
+        Some(Ok(drawing))
+    }
+}
+
+// The drawing that the bytes begin with, and the bytes after it; none where it is damaged.
+// Besides its rows and its path it takes nine bytes.
+fn first_drawing(bytes: &[u8]) -> Option<(Drawing<'_>, &[u8])>
     ensures { IfSome result (λ p. 9 + length p.0.rows.now + length p.0.path.now + length p.1.now ≡ length bytes.now) }
 {
     let (split, bytes) = bytes.split_first()?;
@@ -26,7 +63,8 @@ pub(crate) fn first_drawing(bytes: &[u8]) -> Option<(Drawing<'_>, &[u8])>
     Some((Drawing { split, rows, path }, bytes))
 }
 
-// What follows a count of four bytes: so many parts of a size, and the bytes after them.
+// What follows a count of four bytes: so many parts of a size, and the bytes after them. Another
+// program reads such a count too; for two lines it would be a public function of a library.
 fn counted(bytes: &[u8], size: usize) -> Option<(&[u8], &[u8])>
     ensures { IfSome result (λ p. 4 + length p.0.now + length p.1.now ≡ length bytes.now) }
 {

@@ -2,7 +2,7 @@
 //! At a damaged drawing or a refused path it prints a line that says so, and ends.
 #![tactic(auto)]
 
-use crate::drawing::first_drawing;
+use crate::drawing::Drawings;
 use crate::given::segments_of;
 use crate::shown::Shown;
 use distances::rows::decoded;
@@ -24,9 +24,8 @@ fn main(rt: HostRuntime) -> io::Result<()> {
     let mut bytes = Vec::new(rt.alloc());
     rt.stdin().read_to_end(&mut bytes)?;
     let mut places = vec![in rt.alloc(); Command::Close; MOST_COMMANDS]?;
-    let mut left = bytes.as_slice();
-    while !left.is_empty() {
-        let Some((drawing, rest)) = first_drawing(left) else {
+    for drawing in Drawings::new(&bytes) {
+        let Ok(drawing) = drawing else {
             return println!(rt; "! a drawing is damaged");
         };
         let mut job = Job::new(&mut places, &mut []);
@@ -36,7 +35,6 @@ fn main(rt: HostRuntime) -> io::Result<()> {
         let rows = decoded(rt.alloc(), drawing.rows)?;
         let segments = segments_of(rt.alloc(), drawing.split, job.commands.as_slice(), &rows)?;
         print_segments(&rt, &segments)?;
-        left = rest;
     }
     Ok(())
 }

@@ -18,7 +18,7 @@ impl fmt::Display for Shown {
                 write!(
                     f,
                     "L {} {} {}",
-                    id.number(),
+                    u8::from(id),
                     PointBits(line.a),
                     PointBits(line.b)
                 )
@@ -26,7 +26,7 @@ impl fmt::Display for Shown {
             Segment::Curve(id, curve) => write!(
                 f,
                 "C {} {} {} {} {}",
-                id.number(),
+                u8::from(id),
                 PointBits(curve.a),
                 PointBits(curve.b),
                 PointBits(curve.c),

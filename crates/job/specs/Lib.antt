@@ -1,3 +1,4 @@
+pub mod Operands
 pub mod Readers
 pub mod Jobs
 pub mod Whole

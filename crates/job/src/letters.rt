@@ -1,84 +1,76 @@
-ghost use Rattle.std.specs.Prelude.{◌≡◌, ◌+◌, ◌≤◌, length};
-ghost use Rattle.codec.specs.Reading.{width_of, item_of, Enough, float_at, point_at, read};
+ghost use Rattle.std.specs.Prelude.{◌≡◌, ◌+◌, ◌-◌, length, slice_index, MatchResult};
+ghost use Rattle.codec.specs.Reading.{float_at, point_at, read};
+ghost use Rattle.job.specs.Operands.{Front};
 
 use codec::float::float_of;
 use codec::item::Item;
-use codec::shape::{cap_of, join_of};
 use path::command::Command;
 use path::geometry::Point;
 use path::refusal::Reason;
+use path::style::{Cap, Join};
 
-// How many bytes of operands follow a letter.
-fn width(letter: u8) -> Option<usize>
-    ensures { result ≡ width_of letter }
-{
-    match letter as char {
-        'W' | 'I' | 'O' | 'D' => Some(4),
-        'J' | 'S' | 'E' => Some(1),
-        'M' | 'L' => Some(8),
-        'Q' => Some(16),
-        'C' => Some(24),
-        'Z' => Some(0),
-        _ => None,
+// The bytes after a letter: each call hands out the operand at their front.
+#[derive(Drop)]
+struct Operands<'a> {
+    bytes: &'a [u8],
+}
+
+impl Operands<'_> {
+    fn byte(&mut self) -> Result<u8, Reason>
+        ensures { Front 1 (slice_index self.old.bytes.now 0) self.old.bytes.now self.new.bytes.now result }
+    {
+        let (first, rest) = self.bytes.split_first().ok_or(Reason::MissingOperands)?;
+        self.bytes = rest;
+        Ok(*first)
     }
-}
 
-// The number at a place, high byte first.
-fn float(bytes: &[u8], i: usize) -> f32
-    requires { i + 4 ≤ length bytes.now }
-    ensures { result ≡ float_at bytes.now i }
-{
-    float_of(u32::from_be_bytes([bytes[i], bytes[i + 1], bytes[i + 2], bytes[i + 3]]))
-}
-
-fn point(bytes: &[u8], i: usize) -> Point
-    requires { i + 8 ≤ length bytes.now }
-    ensures { result ≡ point_at bytes.now i }
-{
-    Point {
-        x: float(bytes, i),
-        y: float(bytes, i + 4),
+    // A number has its high byte first.
+    fn number(&mut self) -> Result<f32, Reason>
+        ensures { Front 4 (float_at self.old.bytes.now 0) self.old.bytes.now self.new.bytes.now result }
+    {
+        let (word, rest) = self
+            .bytes
+            .split_first_chunk()
+            .ok_or(Reason::MissingOperands)?;
+        self.bytes = rest;
+        Ok(float_of(u32::from_be_bytes(*word)))
     }
-}
 
-// The item that a letter and its operands say; none for a join or cap byte above 2.
-fn item(letter: u8, operands: &[u8]) -> Option<Item>
-    requires { Enough (width_of letter) operands.now }
-    ensures { result ≡ item_of letter operands.now }
-{
-    match letter as char {
-        'W' => Some(Item::Width(float(operands, 0))),
-        'J' => Some(Item::Join(join_of(operands[0])?)),
-        'I' => Some(Item::MiterLimit(float(operands, 0))),
-        'S' => Some(Item::StartCap(cap_of(operands[0])?)),
-        'E' => Some(Item::EndCap(cap_of(operands[0])?)),
-        'O' => Some(Item::Offset(float(operands, 0))),
-        'D' => Some(Item::Dash(float(operands, 0))),
-        'M' => Some(Item::Path(Command::MoveTo(point(operands, 0)))),
-        'L' => Some(Item::Path(Command::LineTo(point(operands, 0)))),
-        'C' => Some(Item::Path(Command::CurveTo(
-            point(operands, 0),
-            point(operands, 8),
-            point(operands, 16),
-        ))),
-        'Q' => Some(Item::Path(Command::QuadTo(point(operands, 0), point(operands, 8)))),
-        'Z' => Some(Item::Path(Command::Close)),
-        _ => None,
+    fn point(&mut self) -> Result<Point, Reason>
+        ensures { Front 8 (point_at self.old.bytes.now 0) self.old.bytes.now self.new.bytes.now result }
+    {
+        let x = self.number()?;
+        let y = self.number()?;
+        Ok(Point { x, y })
+    }
+
+    // The item that a letter says with its operands.
+    fn item(&mut self, letter: u8) -> Result<Item, Reason>
+        ensures { MatchResult result (λ i. read letter self.old.bytes.now ≡ Ok (i, 1 + length self.old.bytes.now - length self.new.bytes.now)) (λ e. read letter self.old.bytes.now ≡ Err e) }
+    {
+        match letter as char {
+            'W' => Ok(Item::Width(self.number()?)),
+            'J' => Ok(Item::Join(Join::try_from(self.byte()?)?)),
+            'I' => Ok(Item::MiterLimit(self.number()?)),
+            'S' => Ok(Item::StartCap(Cap::try_from(self.byte()?)?)),
+            'E' => Ok(Item::EndCap(Cap::try_from(self.byte()?)?)),
+            'O' => Ok(Item::Offset(self.number()?)),
+            'D' => Ok(Item::Dash(self.number()?)),
+            'M' => Ok(Item::Path(Command::MoveTo(self.point()?))),
+            'L' => Ok(Item::Path(Command::LineTo(self.point()?))),
+            'C' => Ok(Item::Path(Command::CurveTo(self.point()?, self.point()?, self.point()?))),
+            'Q' => Ok(Item::Path(Command::QuadTo(self.point()?, self.point()?))),
+            'Z' => Ok(Item::Path(Command::Close)),
+            _ => Err(Reason::UnknownLetter),
+        }
     }
 }
 
 // The item of a letter and the bytes after it, and how many bytes it takes, the letter's among them.
-pub(crate) fn read_item(letter: u8, operands: &[u8]) -> Result<(Item, usize), Reason>
-    ensures { result ≡ read letter operands.now }
+pub(crate) fn read_item(letter: u8, bytes: &[u8]) -> Result<(Item, usize), Reason>
+    ensures { result ≡ read letter bytes.now }
 {
-    let Some(width) = width(letter) else {
-        return Err(Reason::UnknownLetter);
-    };
-    if operands.len() < width {
-        return Err(Reason::MissingOperands);
-    }
-    match item(letter, operands) {
-        Some(item) => Ok((item, 1 + width)),
-        None => Err(Reason::UnknownShape),
-    }
+    let mut operands = Operands { bytes };
+    let item = operands.item(letter)?;
+    Ok((item, 1 + bytes.len() - operands.bytes.len()))
 }

@@ -4,7 +4,7 @@ ghost use Rattle.job.specs.Readers.{start};
 mod items;
 mod jobs;
 
-/// Reads a job's bytes, which the caller lends, from a place on.
+/// Reads a job's bytes, which the caller lends, from a place on; by rule a reader is these two.
 #[derive(Drop)]
 pub struct JobReader<'a> {
     bytes: &'a [u8],

@@ -59,8 +59,5 @@ fn put<T: Copy>(list: &mut Lent<T>, x: T, most: usize) -> Result<(), Reason>
     if list.len() >= most {
         return Err(Reason::ListFull);
     }
-    match list.push(x) {
-        Ok(()) => Ok(()),
-        Err(_) => Err(Reason::ListFull),
-    }
+    list.push(x).map_err(|_| Reason::ListFull)
 }

@@ -1,41 +1,35 @@
 ghost use Rattle.std.specs.Prelude.{◌≡◌};
 ghost use Rattle.maths.specs.Questions.{all_asked};
-ghost use Rattle.arcs.specs.Lists.{commands};
 ghost use Rattle.joins.specs.Caps.{square_cap, cap_commands, cap_questions};
 
 use crate::round::round;
-use arcs::few::Few;
-use maths::host::{MathsHost, MathsMeaning};
+use arcs::few::{Few, few};
+use maths::host::MathsHost;
 use path::command::Command;
-use path::geometry::{Point, Vector};
+use path::geometry::Vector;
 use path::style::Cap;
+use pen::corner::Turn;
 
-fn square(radius: f32, from: Point, to: Point, normal: Vector) -> Few
-    ensures { commands result ≡ square_cap radius from to normal }
+fn square(radius: f32, turn: Turn) -> Few
+    ensures { result.items ≡ square_cap radius turn }
 {
+    let normal = turn.from_normal;
     let out = Vector::new(-normal.y, normal.x).mul(radius);
-    Few::three(
-        Command::LineTo(from.add(out)),
-        Command::LineTo(to.add(out)),
-        Command::LineTo(to),
-    )
+    few(&[
+        Command::LineTo(turn.from.add(out)),
+        Command::LineTo(turn.to.add(out)),
+        Command::LineTo(turn.to),
+    ])
 }
 
-/// The commands from one side of a stroke to the other, where the side that ends has this normal.
-pub fn cap_commands<K: MathsHost>(
-    shape: Cap,
-    radius: f32,
-    from: Point,
-    to: Point,
-    normal: Vector,
-    host: &mut K,
-) -> Few
-    ensures answer { commands result ≡ cap_commands (K.MathsMeaning.functions host.old) shape radius from to normal }
-    ensures host { host.new ≡ all_asked K.MathsMeaning.asked host.old (cap_questions (K.MathsMeaning.functions host.old) shape radius from to) }
+/// The commands of a cap, from one side of a stroke across to the other.
+pub fn cap_commands<K: MathsHost>(shape: Cap, radius: f32, turn: Turn, host: &mut K) -> Few
+    ensures answer { result.items ≡ cap_commands (K.functions host.old) shape radius turn }
+    ensures host { host.new ≡ all_asked K.asked host.old (cap_questions (K.functions host.old) shape radius turn) }
 {
     match shape {
-        Cap::Butt => Few::one(Command::LineTo(to)),
-        Cap::Square => square(radius, from, to, normal),
-        Cap::Round => round(radius, from, to, host),
+        Cap::Butt => few(&[Command::LineTo(turn.to)]),
+        Cap::Square => square(radius, turn),
+        Cap::Round => round(radius, turn, host),
     }
 }

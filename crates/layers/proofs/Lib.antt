@@ -1,2 +1,1 @@
-mod Boxes
 mod Floats

@@ -1,11 +1,10 @@
 -- The box around the points of commands, as far as they are numbers.
 use Rattle.std.specs.Prelude.{Bool, cond, not, ◌&&◌, List, [], ◌∷◌, Some, None, Option, is_nan, Float}
-use Rattle.std.specs.Float.Ieee.{lt, le}
+use Rattle.std.specs.Float.Ieee.{lt}
 use Rattle.path.specs.declared.geometry.Vector.{Vector}
 use Rattle.path.specs.declared.command.Command.{Command}
 use Rattle.path.specs.declared.command.Command.TheVariants.{MoveTo, LineTo, CurveTo, QuadTo, Close}
-use Rattle.layers.specs.declared.bounding_box.BoundingBox.{BoundingBox}
-use Rattle.layers.specs.declared.bounds.Corners.{Corners}
+use Rattle.layers.specs.Corners.{Corners}
 
 -- the less of two numbers, and the greater; the first where neither is, so the first of two zeros stays
 abbrev pub lower : Float → Float → Float
@@ -20,10 +19,16 @@ low_corner a p = record { x = lower a.x p.x; y = lower a.y p.y }
 abbrev pub high_corner : Vector → Vector → Vector
 high_corner b p = record { x = upper b.x p.x; y = upper b.y p.y }
 
+abbrev pub point_box : Vector → Corners
+point_box p = record { low = p; high = p }
+
 -- around one point more
-abbrev pub around : Option Corners → Vector → Corners
-around None p = record { low = p; high = p }
-around (Some c) p = record { low = low_corner c.low p; high = high_corner c.high p }
+abbrev pub around : Corners → Vector → Corners
+around c p = record { low = low_corner c.low p; high = high_corner c.high p }
+
+abbrev pub first_or_around : Option Corners → Vector → Corners
+first_or_around None p = point_box p
+first_or_around (Some c) p = around c p
 
 -- a point with no NaN
 abbrev pub number : Vector → Bool
@@ -31,7 +36,7 @@ number p = not (is_nan p.x) && not (is_nan p.y)
 
 -- a point with a NaN is passed over
 abbrev pub spread : Option Corners → Vector → Option Corners
-spread o p = cond (number p) (Some (around o p)) o
+spread o p = cond (number p) (Some (first_or_around o p)) o
 
 abbrev pub spreads : Option Corners → List Vector → Option Corners
 spreads o [] = o
@@ -43,15 +48,3 @@ points (LineTo p) = p ∷ []
 points (CurveTo a b p) = a ∷ b ∷ p ∷ []
 points (QuadTo a p) = a ∷ p ∷ []
 points Close = []
-
--- low not above high; with a NaN no comparison holds
-abbrev pub in_order : Corners → Bool
-in_order c = le c.low.x c.high.x && le c.low.y c.high.y
-
-abbrev pub ordered : Option Corners → Option Corners
-ordered None = None
-ordered (Some c) = cond (in_order c) (Some c) None
-
-abbrev pub corners_of : Option BoundingBox → Option Corners
-corners_of None = None
-corners_of (Some b) = Some (record { low = b.low; high = b.high })

@@ -1,3 +1,4 @@
 pub mod Boxes
 pub mod ShiftLaws
 pub mod Shifts
+pub mod Corners

@@ -1,7 +1,7 @@
 -- A moved command keeps its kind, so a sink that hands it on takes it as the one below does.
 use Rattle.std.specs.Prelude.{◌≡◌, ◌-◌, T, [], ◌∷◌, ◌++◌, nat_le, refl}
-use Rattle.std.proofs.Common.{sym, subst, ap}
-use Rattle.path.specs.Kinds.{Kind, kind}
+use Rattle.std.proofs.Common.{sym, subst}
+use Rattle.path.specs.Kinds.{kind}
 use Rattle.path.specs.declared.geometry.Vector.{Vector}
 use Rattle.path.specs.declared.command.Command.{Command}
 use Rattle.path.specs.declared.command.Command.TheVariants.{MoveTo, LineTo, CurveTo, QuadTo, Close}
@@ -20,5 +20,4 @@ shifted_takes by m c fits = subst (λ k. T (nat_le (m.price k) m.units)) (sym (k
 
 pub shifted_joined : (by : Vector) (m : Meaning) (c : Command) → shifted by (joined m (moved by c)) ≡ joined (shifted by m) c
 shifted_joined by m c =
-    let at_kind : Kind → Meaning = λ k. record { list = m.list ++ (m.map (moved by c) ∷ []); units = m.units - m.price k; price = m.price; map = λ d. m.map (moved by d) } in
-    ap at_kind (kind_moved by c)
+    λ i. record { list = m.list ++ (m.map (moved by c) ∷ []); units = m.units - m.price (kind_moved by c i); price = m.price; map = λ d. m.map (moved by d) }

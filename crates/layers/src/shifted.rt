@@ -5,7 +5,7 @@ ghost use Rattle.std.proofs.Common.{ap, ◌∙◌};
 
 use path::command::Command;
 use path::geometry::{Point, Vector};
-use sinks::sink::{Sent, Sink, SinkMeaning};
+use sinks::sink::{Refused, Sink};
 
 /// A layer over any sink: every point is moved by one vector before it is handed on.
 #[derive(Drop)]
@@ -21,7 +21,7 @@ impl<S: Sink> Shifted<S> {
         Shifted { inner, by }
     }
 
-    /// Ends the layer, and hands out the sink below.
+    /// Ends the layer, and hands out the sink below. Each layer takes its own struct apart.
     pub fn into_inner(self) -> S
         ensures { result ≡ self.inner }
     {
@@ -33,10 +33,7 @@ impl<S: Sink> Shifted<S> {
 fn shift_point(by: Vector, p: Point) -> Point
     ensures { result ≡ moved_point by p }
 {
-    Point {
-        x: p.x + by.x,
-        y: p.y + by.y,
-    }
+    p.add(by)
 }
 
 fn shift(by: Vector, c: Command) -> Command
@@ -53,20 +50,18 @@ fn shift(by: Vector, c: Command) -> Command
     }
 }
 
-impl<S: SinkMeaning> SinkMeaning for Shifted<S> {
-    ghost meaning = { λ s. shifted s.by (S.SinkMeaning.meaning s.inner) };
+impl<S: Sink> Sink for Shifted<S> {
+    ghost meaning = { λ s. shifted s.by (S.meaning s.inner) };
 
-    ghost took = { λ s c. record { inner = S.SinkMeaning.took s.inner (moved s.by c); by = s.by } };
+    ghost took = { λ s c. record { inner = S.took s.inner (moved s.by c); by = s.by } };
 
-    ghost kept = { λ s c. S.SinkMeaning.kept s.inner (moved s.by c) ∙ kind_moved s.by c };
+    ghost kept = { λ s c. S.kept s.inner (moved s.by c) ∙ kind_moved s.by c };
 
     ghost grows = { λ s c fits.
-        ap (shifted s.by) (S.SinkMeaning.grows s.inner (moved s.by c) (shifted_takes s.by (S.SinkMeaning.meaning s.inner) c fits))
-        ∙ shifted_joined s.by (S.SinkMeaning.meaning s.inner) c };
-}
+        ap (shifted s.by) (S.grows s.inner (moved s.by c) (shifted_takes s.by (S.meaning s.inner) c fits))
+        ∙ shifted_joined s.by (S.meaning s.inner) c };
 
-impl<S: Sink> Sink for Shifted<S> {
-    fn send(&mut self, c: Command) -> Sent {
+    fn send(&mut self, c: Command) -> Result<(), Refused> {
         self.inner.send(shift(self.by, c))
     }
 }

@@ -6,7 +6,8 @@ ghost use Rattle.std.specs.List.{slice_get};
 ghost use Rattle.lent.specs.Lists.{items, empty, counted, room, pushed, cleared, push_answer};
 
 /// A lent slice and a count: the list is the first `count` places, and the places after them keep
-/// what they held. A count past the slice's end counts as the slice's length.
+/// what they held. A count past the slice's end counts as the slice's length. By rule it is these two,
+/// for every element type.
 #[derive(Drop)]
 pub struct Lent<'a, T> {
     places: &'a mut [T],
@@ -14,7 +15,7 @@ pub struct Lent<'a, T> {
 }
 
 /// The answer of a list that has no place left.
-#[derive(Clone, Copy)]
+#[derive(Clone, Copy, Debug, PartialEq, Eq)]
 pub struct Full;
 
 impl<'a, T: Copy> Lent<'a, T> {
@@ -94,7 +95,7 @@ pub fn front<T>(places: &[T], count: usize) -> &[T]
     }
 }
 
-/// The element of a slice at a place, none past the end.
+/// The element of a slice at a place, none past the end: a copy of it, in one word.
 pub fn element<T: Copy>(s: &[T], i: usize) -> Option<T>
     ensures { result ≡ slice_get s.now i }
 {

@@ -2,15 +2,14 @@
 #![tactic(auto)]
 
 ghost use Rattle.std.specs.Prelude.{◌≡◌, cond, ltb, length};
-ghost use Rattle.sinks.specs.declared.sink.Sent.TheVariants.{Taken, Refused};
 
 use path::command::Command;
 use sinks::record_list::RecordList;
-use sinks::sink::{Sent, Sink};
+use sinks::sink::{Refused, Sink};
 
 // A list that was ended takes nothing more: a new one over the same places does.
-fn send_again(places: &mut [Command], first: Command, second: Command) -> Sent
-    ensures { result ≡ cond (ltb 0 (length places.old)) Taken Refused }
+fn send_again(places: &mut [Command], first: Command, second: Command) -> Result<(), Refused>
+    ensures { result ≡ cond (ltb 0 (length places.old)) (Ok tt) (Err (record {})) }
 {
     let mut list = RecordList::new(places);
     let _ = list.send(first);

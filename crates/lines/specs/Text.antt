@@ -4,9 +4,10 @@ use Rattle.std.specs.Float.{binary32}
 use Rattle.std.specs.Fmt.{digit_glyph}
 use Rattle.path.specs.declared.command.Command.{Command}
 use Rattle.path.specs.Refusals.{number_of}
+use Rattle.path.specs.Styles.{join_number, cap_number}
 use Rattle.codec.specs.declared.item.Item.{Item}
 use Rattle.codec.specs.declared.item.Item.TheVariants as item
-use Rattle.codec.specs.Spelling.{letter, letter_of, join_number, cap_number, coordinates}
+use Rattle.codec.specs.Spelling.{letter, letter_of, coordinates}
 use Rattle.lines.specs.declared.line.Line.{Line}
 use Rattle.lines.specs.declared.line.Line.TheVariants as line
 

@@ -4,13 +4,12 @@ ghost use Rattle.lines.specs.Text.{command_text, item_text, line_text};
 
 use crate::bits::{Bits, PointBits};
 use codec::item::Item;
-use codec::shape::{cap_number, join_number};
 use path::command::Command;
 use path::refusal::Refusal;
 use std::fmt;
 
 /// One printed line.
-#[derive(Clone, Copy)]
+#[derive(Clone, Copy, Debug, PartialEq)]
 pub enum Line {
     /// An item of a job.
     Item(Item),
@@ -27,26 +26,28 @@ impl fmt::Display for Line {
         match *self {
             Line::Item(item) => write_item(item, f),
             Line::Held { commands, dashes } => write!(f, "= {commands} {dashes}"),
-            Line::Refused(r) => write!(f, "! {} {} {}", r.reason.number(), r.place, r.sent),
+            Line::Refused(r) => write!(f, "! {} {} {}", u8::from(r.reason), r.place, r.sent),
         }
     }
 }
 
+// A function, since `Display` can't be given here to a type of another crate.
 fn write_item<W: fmt::Write>(item: Item, f: &mut fmt::Formatter<W>) -> fmt::Result
     ensures { WritesOnOk W.Write.write_str_gives f.old result (item_text item) f.new }
 {
     match item {
         Item::Width(x) => write!(f, "W {}", Bits(x)),
-        Item::Join(join) => write!(f, "J {}", join_number(join)),
+        Item::Join(join) => write!(f, "J {}", u8::from(join)),
         Item::MiterLimit(x) => write!(f, "I {}", Bits(x)),
-        Item::StartCap(shape) => write!(f, "S {}", cap_number(shape)),
-        Item::EndCap(shape) => write!(f, "E {}", cap_number(shape)),
+        Item::StartCap(shape) => write!(f, "S {}", u8::from(shape)),
+        Item::EndCap(shape) => write!(f, "E {}", u8::from(shape)),
         Item::Offset(x) => write!(f, "O {}", Bits(x)),
         Item::Dash(x) => write!(f, "D {}", Bits(x)),
         Item::Path(command) => write_command(command, f),
     }
 }
 
+// The same.
 fn write_command<W: fmt::Write>(c: Command, f: &mut fmt::Formatter<W>) -> fmt::Result
     ensures { WritesOnOk W.Write.write_str_gives f.old result (command_text c) f.new }
 {

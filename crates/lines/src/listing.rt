@@ -1,13 +1,12 @@
-ghost use Rattle.std.specs.Prelude.{◌≡◌, ◌++◌, map, IfOk, OnOk};
+ghost use Rattle.std.specs.Prelude.{◌≡◌, IfOk};
 ghost use Rattle.job.specs.Readers.{start};
 ghost use Rattle.job.specs.Whole.{whole};
-ghost use Rattle.lines.specs.Listing.{style_lines, dash_line, command_line, total, job_lines, refusal_lines, listed};
+ghost use Rattle.lines.specs.Listing.{style_lines, total, job_lines, refusal_lines, listed};
 
 use crate::line::Line;
 use codec::item::Item;
 use job::reader::JobReader;
 use job::whole::Job;
-use path::command::Command;
 use path::refusal::Refusal;
 use path::style::Stroke;
 use std::alloc::{AllocError, Global};
@@ -35,8 +34,10 @@ fn job_lines(heap: Global, job: &Job) -> Result<Vec<Line>, AllocError>
     ensures { IfOk result (λ v. v.items ≡ job_lines job.now) }
 {
     let mut lines = style_lines(heap, job.style)?;
-    push_dashes(&mut lines, job.dashes.as_slice())?;
-    push_commands(&mut lines, job.commands.as_slice())?;
+    let dashes = job.dashes.as_slice().iter();
+    lines.extend(dashes.map(|x| Line::Item(Item::Dash(*x))))?;
+    let commands = job.commands.as_slice().iter();
+    lines.extend(commands.map(|c| Line::Item(Item::Path(*c))))?;
     lines.push(total(job))?;
     Ok(lines)
 }
@@ -61,22 +62,4 @@ fn style_lines(heap: Global, s: Stroke) -> Result<Vec<Line>, AllocError>
         Line::Item(Item::EndCap(s.end_cap)),
         Line::Item(Item::Offset(s.offset)),
     ]?)
-}
-
-fn push_dashes(lines: &mut Vec<Line>, dashes: &[f32]) -> Result<(), AllocError>
-    ensures { OnOk result (lines.new.items ≡ lines.old.items ++ map dash_line dashes.now) }
-{
-    for x in dashes {
-        lines.push(Line::Item(Item::Dash(*x)))?;
-    }
-    Ok(())
-}
-
-fn push_commands(lines: &mut Vec<Line>, commands: &[Command]) -> Result<(), AllocError>
-    ensures { OnOk result (lines.new.items ≡ lines.old.items ++ map command_line commands.now) }
-{
-    for c in commands {
-        lines.push(Line::Item(Item::Path(*c)))?;
-    }
-    Ok(())
 }

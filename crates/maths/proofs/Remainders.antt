@@ -1,7 +1,7 @@
 -- What is left of a number when whole fours are taken from it.
 use Rattle.std.proofs.Common.{◌≡◌, ℕ, zero, suc, ◌+◌, ◌-◌, ◌*◌, ◌/◌, ◌%◌, ◌^◌, ◌<◌, ◌≤◌, Bool, true, false, not, cond, ◌&&◌, T, ltb, leb, eqb, ℤ, pos, negsuc, refl, sym, ap, ◌∙◌, subst, arith, ltb→lt, leb→le, lit≤, lit<, mul_assoc, mul-one, pow-add, pow_pos, pow_mono, mul-lt-mul_of_pos_right, mul-pos, div-one, div-le_self, true≢false, mul-le-mul_left, mul_comm, mul_right_comm, add-mul, div-add-mod', div-mul-le_self, le-div_iff_mul-le, lt_of_mul-lt-mul_right, le-ltb, nltb→le, mod-eq_of_lt, le_trans, le_of_eq, lt_of_lt_of_le, lt_of_le_of_lt, lt_of_not-le}
 use Rattle.std.specs.Float.{trunc, round_with, float_with_sign}
-use Rattle.std.proofs.lemmas.Float.{T_from_true}
+use Rattle.std.proofs.lemmas.Float.{T_from_true, T_from_false, one_f64_is}
 use lib.Ieee.{Float, nan, inf, fin, binary64, up, down, odd, units, round, neg, mul, sub, add, sum, rem, lt, fits, of_bits}
 use lib.Ieee.Exact.{HasValue, round_exact}
 use lib.Ieee.Scale.{round_same}
@@ -212,7 +212,7 @@ large m e f h =
 
 -- ---- for the code
 
--- 4, a quarter, 1 and 0 by their bits
+-- 4, a quarter and 0 by their bits
 four_is : of_bits binary64 0x4010_0000_0000_0000 ≡ four
 unfolding of_bits
 four_is = refl
@@ -221,16 +221,9 @@ quarter_is : of_bits binary64 0x3FD0_0000_0000_0000 ≡ quarter
 unfolding of_bits
 quarter_is = refl
 
-one_is : of_bits binary64 0x3FF0_0000_0000_0000 ≡ fin false 1 (pos 0)
-unfolding of_bits
-one_is = refl
-
 zero_is : of_bits binary64 0 ≡ fin false 0 (pos 0)
 unfolding of_bits
 zero_is = refl
-
-fails : {b : Bool} → b ≡ false → T (not b)
-fails e = subst (λ (x : Bool). T (not x)) (sym e) tt
 
 small : (t : Float) → lt (float_with_sign false t) four ≡ true → mul binary64 t (fin false 1 (pos 0)) ≡ rem binary64 t four
 unfolding lt mul rem float_with_sign
@@ -245,7 +238,7 @@ fits_without s zero e f = f
 fits_without s (suc m) e f = f
 
 past_four : (m : ℕ) (e : ℤ) → ltb (m * up e * 1) (4 * down e) ≡ false → 4 * down e ≤ m * up e
-past_four m e h = let past : 4 * down e ≤ m * up e * 1 = nltb→le (m * up e * 1) (4 * down e) (fails h) in omega arith
+past_four m e h = let past : 4 * down e ≤ m * up e * 1 = nltb→le (m * up e * 1) (4 * down e) (T_from_false _ h) in omega arith
 
 large_size : (t : Float) → T (fits binary64 t) → lt (float_with_sign false t) four ≡ false
     → sub binary64 (float_with_sign false t) (mul binary64 (trunc binary64 (mul binary64 (float_with_sign false t) quarter)) four) ≡ rem binary64 (float_with_sign false t) four
@@ -268,7 +261,7 @@ above_zero (inf s) h k = refl
 above_zero (fin false m e) h k = refl
 above_zero (fin true m e) h k = absurd (
     let past = past_four m e h in
-    let none : m * up e * 1 + 0 * down e ≤ 0 = nltb→le 0 (m * up e * 1 + 0 * down e) (fails k) in
+    let none : m * up e * 1 + 0 * down e ≤ 0 = nltb→le 0 (m * up e * 1 + 0 * down e) (T_from_false _ k) in
     let some = down_pos e in omega arith)
 
 abbrev bits : ℕ → Float
@@ -277,7 +270,7 @@ bits b = of_bits binary64 b
 pub rest_of_small : (t a : Float) → a ≡ float_with_sign false t → lt a (bits 0x4010_0000_0000_0000) ≡ true → mul binary64 t (bits 0x3FF0_0000_0000_0000) ≡ rem binary64 t (bits 0x4010_0000_0000_0000)
 rest_of_small t a is h =
     subst (λ (k : Float). lt a k ≡ true → mul binary64 t (bits 0x3FF0_0000_0000_0000) ≡ rem binary64 t k) (sym four_is)
-    (λ l. ap (mul binary64 t) one_is ∙ small t (subst (λ (x : Float). lt x four ≡ true) is l)) h
+    (λ l. ap (mul binary64 t) one_f64_is ∙ small t (subst (λ (x : Float). lt x four ≡ true) is l)) h
 
 rest_of_size : (t a w : Float) → fits binary64 t ≡ true → a ≡ float_with_sign false t → w ≡ trunc binary64 (mul binary64 a (bits 0x3FD0_0000_0000_0000)) → lt a four ≡ false
     → sub binary64 a (mul binary64 w four) ≡ rem binary64 (float_with_sign false t) four

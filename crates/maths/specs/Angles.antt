@@ -1,10 +1,10 @@
 -- What is kept in the range of the arc cosine is an angle, and so is what a table answers for it.
-use Rattle.std.specs.Prelude.{◌≡◌, true, T, List, [], ◌∷◌, Float}
+use Rattle.std.specs.Prelude.{◌≡◌, true, List, [], ◌∷◌, Float}
 use Rattle.std.specs.Int.Count.{count_trailing_zeros}
 use Rattle.std.specs.Float.{nan, binary32}
 use Rattle.std.specs.Float.Ieee.{is_nan, le, lt, eq, of_bits, of_fields, odd}
-use Rattle.std.proofs.Common.{sym, subst}
 use Rattle.std.proofs.lemmas.Bool.{cond_both, or_right}
+use Rattle.std.proofs.lemmas.Float.{T_from_true}
 use Rattle.maths.specs.declared.host.Function.TheVariants.{ArcCosine}
 use Rattle.maths.specs.declared.table.Row.{Row}
 use Rattle.maths.specs.Functions.{Angle, in_range}
@@ -16,7 +16,7 @@ unfolding is_nan
 nan_angle = tt
 
 pub ranged_angle : (y : Float) → in_range y ≡ true → Angle y
-ranged_angle y e = subst T (sym (or_right (is_nan y) (in_range y) e)) tt
+ranged_angle y e = T_from_true _ (or_right (is_nan y) (in_range y) e)
 
 low_angle : Angle (of_bits binary32 0)
 unfolding is_nan le lt eq of_bits of_fields odd count_trailing_zeros

@@ -1,5 +1,5 @@
 -- What a maths host answers.
-use Rattle.std.specs.Prelude.{◌≡◌, ℕ, Bool, cond, ◌&&◌, ◌||◌, T, from_bits, is_nan, Float}
+use Rattle.std.specs.Prelude.{◌≡◌, ℕ, Bool, cond, ◌&&◌, ◌||◌, T, List, codes, from_bits, is_nan, Float}
 use Rattle.std.specs.Float.{nan, binary32}
 use Rattle.std.specs.Float.Ieee.{le, fits}
 use Rattle.maths.specs.declared.host.Function.{Function}
@@ -29,6 +29,13 @@ numbered Cosine = 2
 numbered ArcCosine = 3
 numbered Tangent = 4
 numbered Power = 5
+
+abbrev pub function_name : Function → List ℕ
+function_name Sine = codes "sine"
+function_name Cosine = codes "cosine"
+function_name ArcCosine = codes "arc cosine"
+function_name Tangent = codes "tangent"
+function_name Power = codes "power"
 
 -- from 0 to 3.1415927
 abbrev pub in_range : Float → Bool

@@ -1,5 +1,5 @@
 -- The functions that a table of rows gives.
-use Rattle.std.specs.Prelude.{Bool, cond, ◌&&◌, List, [], ◌∷◌, ◌==◌, from_bits, to_bits, Float}
+use Rattle.std.specs.Prelude.{Bool, cond, ◌&&◌, Option, Some, None, List, [], ◌∷◌, ◌==◌, from_bits, to_bits, Float}
 use Rattle.std.specs.Float.{nan, binary32}
 use Rattle.maths.specs.declared.host.Function.{Function}
 use Rattle.maths.specs.declared.host.Function.TheVariants.{Sine, Cosine, ArcCosine, Tangent, Power}
@@ -18,10 +18,18 @@ lawful ArcCosine y = cond (in_range y) y nan
 lawful Tangent y = y
 lawful Power y = y
 
+abbrev pub answer_of : Row → Function → Float
+answer_of r f = lawful f (from_bits binary32 r.answer)
+
+-- what a row that was found answers, and NaN where none was
+abbrev pub answered : Function → Option Row → Float
+answered f None = nan
+answered f (Some r) = answer_of r f
+
 -- the first row that matches answers, and NaN where none does
 abbrev pub looked_up : List Row → Function → Float → Float
 looked_up [] f x = nan
-looked_up (r ∷ rs) f x = cond (matches r f x) (lawful f (from_bits binary32 r.answer)) (looked_up rs f x)
+looked_up (r ∷ rs) f x = cond (matches r f x) (answer_of r f) (looked_up rs f x)
 
 abbrev pub tabled : List Row → Functions
 tabled rs = gathered (looked_up rs)

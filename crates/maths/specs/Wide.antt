@@ -1,5 +1,7 @@
 -- Sums, products and polynomials of f64.
-use Rattle.std.specs.Prelude.{ℕ, List, [], ◌∷◌, from_bits, Float}
+use Rattle.std.specs.Prelude.{ℕ, List, [], ◌∷◌, reverse, from_bits, Float}
+use Rattle.std.specs.List.{reduce}
+use Rattle.std.specs.Option.{unwrap_or}
 use Rattle.std.specs.Float.{binary64}
 use Rattle.std.specs.Float.Ieee.{add, sub, mul, div}
 
@@ -32,3 +34,7 @@ polynomial c (d ∷ ds) z = wide c ⊕ z ⊗ polynomial d ds z
 abbrev pub alternating : ℕ → List ℕ → Float → Float
 alternating c [] z = wide c
 alternating c (d ∷ ds) z = wide c ⊖ z ⊗ alternating d ds z
+
+-- steps by coefficients, from the last one to the first
+abbrev pub nested : (Float → Float → Float) → List Float → Float
+nested step cs = unwrap_or (reduce step (reverse cs)) (wide 0)

@@ -1,13 +1,14 @@
-ghost use Rattle.std.specs.Prelude.{◌≡◌, refl};
-ghost use Rattle.maths.specs.Series.{series_sine, series_cosine, series_tangent, series_arc, series_power, series, Special};
+ghost use Rattle.std.specs.Prelude.{◌≡◌, refl, Float};
+ghost use Rattle.maths.specs.Series.{series_sine, series_cosine, series_tangent, series_arc, series_power, series, narrow, Special};
 ghost use Rattle.maths.specs.Angles.{kept_angle};
 
-use crate::host::{Function, MathsHost, MathsMeaning};
+use crate::host::{Function, MathsHost};
 use crate::series::circle::Quarters;
 use std::num::{f32_to_f64_with_nan, nearest_f64_to_f32_with_nan};
 
 pub(crate) mod arcs;
 pub(crate) mod circle;
+pub(crate) mod polynomials;
 pub(crate) mod powers;
 
 /// A host that works the functions out by polynomials, in `f64`, and rounds once at the end. Wherever
@@ -20,18 +21,17 @@ impl SeriesHost {
     pub fn new() -> SeriesHost
         ensures { Special }
     {
-        let _ = special_stands();
+        special_stands();
         SeriesHost
     }
 }
 
-fn special_stands() -> u8
+#[tactic(auto, using(crate::proofs::Specials::special))]
+fn special_stands()
     ensures { Special }
-{
-    0
-}
+{}
 
-impl MathsMeaning for SeriesHost {
+impl MathsHost for SeriesHost {
     ghost functions = { λ _. series };
 
     ghost asked = { λ s _ _. s };
@@ -39,9 +39,8 @@ impl MathsMeaning for SeriesHost {
     ghost same = { λ s f x. refl };
 
     ghost ranged = { λ s x. kept_angle _ };
-}
 
-impl MathsHost for SeriesHost {
+    // A match, since a question names its function, as a row of a table does.
     fn ask(&mut self, f: Function, x: f32) -> f32 {
         match f {
             Function::Sine => sine(x),
@@ -53,37 +52,40 @@ impl MathsHost for SeriesHost {
     }
 }
 
+// Worked out in `f64`, and rounded once.
+fn rounded<F: FnOnce(f64) -> f64>(x: f32, wide: F) -> f32
+    requires { F.IsAlwaysCallable wide }
+    ensures { (y : Float) × F.post wide x y × (result ≡ narrow y) }
+{
+    nearest_f64_to_f32_with_nan(wide(f32_to_f64_with_nan(x)))
+}
+
 fn sine(x: f32) -> f32
     ensures { result ≡ series_sine x }
 {
-    let wide = Quarters::new(f32_to_f64_with_nan(x)).sine();
-    nearest_f64_to_f32_with_nan(wide)
+    rounded(x, |y| Quarters::new(y).sine())
 }
 
 fn cosine(x: f32) -> f32
     ensures { result ≡ series_cosine x }
 {
-    let wide = Quarters::new(f32_to_f64_with_nan(x)).cosine();
-    nearest_f64_to_f32_with_nan(wide)
+    rounded(x, |y| Quarters::new(y).cosine())
 }
 
 fn tangent(x: f32) -> f32
     ensures { result ≡ series_tangent x }
 {
-    let wide = Quarters::new(f32_to_f64_with_nan(x)).tangent();
-    nearest_f64_to_f32_with_nan(wide)
+    rounded(x, |y| Quarters::new(y).tangent())
 }
 
 fn arc_cosine(x: f32) -> f32
     ensures { result ≡ series_arc x }
 {
-    let wide = arcs::arc_cosine(f32_to_f64_with_nan(x));
-    arcs::kept(nearest_f64_to_f32_with_nan(wide))
+    arcs::kept(rounded(x, arcs::arc_cosine))
 }
 
 fn power(x: f32) -> f32
     ensures { result ≡ series_power x }
 {
-    let wide = powers::power(f32_to_f64_with_nan(x));
-    nearest_f64_to_f32_with_nan(wide)
+    rounded(x, powers::power)
 }

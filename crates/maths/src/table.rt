@@ -1,15 +1,17 @@
 ghost use Rattle.std.specs.Prelude.{◌≡◌, refl};
+ghost use Rattle.std.specs.List.{find};
 ghost use Rattle.maths.specs.declared.host.Function.TheVariants.{ArcCosine};
 ghost use Rattle.maths.specs.Functions.{apply};
-ghost use Rattle.maths.specs.Tables.{matches, lawful, tabled};
+ghost use Rattle.maths.specs.Tables.{matches, lawful, answer_of, answered, tabled};
 ghost use Rattle.maths.specs.Angles.{looked_up_angle};
 
-use crate::host::{Function, MathsHost, MathsMeaning, in_range, not_a_number};
+use crate::host::{Function, MathsHost, in_range, not_a_number};
 use std::num::{f32_from_bits_with_nan, f32_to_bits_with_nan};
 
 /// One answer: a function's number, the bits of its argument, and the bits of what it answers.
-#[derive(Clone, Copy)]
+#[derive(Clone, Copy, Debug, PartialEq, Eq)]
 pub struct Row {
+    // Any byte: a row is what nine bytes say, and one of no function answers nothing.
     pub function: u8,
     pub argument: u32,
     pub answer: u32,
@@ -21,7 +23,14 @@ impl Row {
         ensures { result ≡ matches self f x }
     {
         let argument = f32_from_bits_with_nan(self.argument);
-        (self.function == f.number()) & (f32_to_bits_with_nan(argument) == f32_to_bits_with_nan(x))
+        (self.function == u8::from(f)) & (f32_to_bits_with_nan(argument) == f32_to_bits_with_nan(x))
+    }
+
+    // Its answer, for the function that was asked.
+    fn lawful_answer(self, f: Function) -> f32
+        ensures { result ≡ answer_of self f }
+    {
+        lawful(f, f32_from_bits_with_nan(self.answer))
     }
 }
 
@@ -29,6 +38,7 @@ impl Row {
 /// that row has an arc cosine out of its range.
 #[derive(Clone, Copy)]
 pub struct TableHost<'a> {
+    // A slice that is searched: the library has no heap for a map.
     rows: &'a [Row],
 }
 
@@ -40,7 +50,7 @@ impl<'a> TableHost<'a> {
     }
 }
 
-impl<'a> MathsMeaning for TableHost<'a> {
+impl<'a> MathsHost for TableHost<'a> {
     ghost functions = { λ s. tabled s.rows.now };
 
     ghost asked = { λ s _ _. s };
@@ -48,9 +58,7 @@ impl<'a> MathsMeaning for TableHost<'a> {
     ghost same = { λ s f x. refl };
 
     ghost ranged = { λ s x. looked_up_angle s.rows.now x };
-}
 
-impl<'a> MathsHost for TableHost<'a> {
     fn ask(&mut self, f: Function, x: f32) -> f32 {
         looked_up(self.rows, f, x)
     }
@@ -59,12 +67,19 @@ impl<'a> MathsHost for TableHost<'a> {
 fn looked_up(rows: &[Row], f: Function, x: f32) -> f32
     ensures { result ≡ apply (tabled rows.now) f x }
 {
-    for row in rows {
-        if row.matches(f, x) {
-            return lawful(f, f32_from_bits_with_nan(row.answer));
-        }
-    }
-    not_a_number()
+    answered(f, first_match(rows, f, x))
+}
+
+fn answered(f: Function, found: Option<Row>) -> f32
+    ensures { result ≡ answered f found }
+{
+    found.map_or(not_a_number(), |row| row.lawful_answer(f))
+}
+
+fn first_match(rows: &[Row], f: Function, x: f32) -> Option<Row>
+    ensures { result ≡ find (λ r. matches r f x) rows.now }
+{
+    rows.iter().copied().find(|row| row.matches(f, x))
 }
 
 // An arc cosine out of its range is NaN.

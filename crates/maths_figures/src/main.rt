@@ -30,23 +30,10 @@ fn print_figures(rt: &HostRuntime, f: Function, figures: Figures) -> io::Result<
         kept,
     } = figures;
     let kept = if kept { "kept" } else { "broken" };
-    println!(rt;
-        "{}: {rows} rows, {equal} equal, worst {steps} in the last place",
-        name(f)
-    )?;
+    println!(rt; "{f}: {rows} rows, {equal} equal, worst {steps} in the last place")?;
     println!(rt;
         "  to {}: worst {apart}/2^40, limit {} {kept}",
         reach(f),
         limit(f)
     )
-}
-
-fn name(f: Function) -> &'static str {
-    match f {
-        Function::Sine => "sine",
-        Function::Cosine => "cosine",
-        Function::ArcCosine => "arc cosine",
-        Function::Tangent => "tangent",
-        Function::Power => "power",
-    }
 }

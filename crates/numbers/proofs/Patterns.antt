@@ -1,6 +1,9 @@
 -- What number a bit pattern stands for: its digits with a power, and from these n * 4 ^ h / 4 ^ 98. And the pattern of q * 2 ^ h / 2 ^ 98.
-use Rattle.std.proofs.Common.{◌≡◌, ℕ, zero, suc, ◌+◌, ◌-◌, ◌*◌, ◌/◌, ◌%◌, ◌^◌, ◌<◌, ◌≤◌, Bool, true, false, cond, not, T, eqb, leb, sym, refl, ap, ◌∙◌, subst, mul-le-mul_left, pow-suc, lt_of_not-le, arith, pow_mono, pow-add, le-ltb, ne_eqb, eqb-true}
+use Rattle.std.proofs.Common.{◌≡◌, ℕ, suc, ◌+◌, ◌-◌, ◌*◌, ◌/◌, ◌%◌, ◌^◌, ◌<◌, ◌≤◌, Bool, true, false, cond, not, T, eqb, leb, sym, refl, ap, ◌∙◌, subst, mul-le-mul_right, mul-lt-mul_of_pos_right, pow_pos, pow-suc, lt_of_not-le, arith, pow_mono, pow-add, le-ltb, ne_eqb, eqb-true}
 use lib.Ieee.{Float, nan, inf, fin, binary32, down, odd, of_fields, of_bits, nan_bits}
+use Rattle.std.specs.Int.Count.{count_leading_zeros}
+use Rattle.std.proofs.lemmas.Float.{T_from_false}
+use Rattle.std.proofs.lemmas.Nat.{leading_top, shl_whole}
 use lib.Ieee.Bits.{nan_bits_above}
 use lib.Ieee.Exact.{HasValue, odd_sign}
 use borrow.Author.Tests.{lt-leb, eqb-false}
@@ -47,19 +50,43 @@ normal_digits b lo hi =
       power = (omega arith, omega arith);
     }
 
-pub subnormal_digits : (b d p : ℕ) → b < 2 ^ 23 → d * 2 ^ p ≡ b * 2 ^ 47 → (2 ^ 23 ≤ d) × (d < 2 ^ 24) → (24 ≤ p) × (p < 301) → Digits (of_bits binary32 b) d p
-subnormal_digits b d p l e D P = record { of = finer (of_bits binary32 b) (b % 2 ^ 23 * 2 ^ 0) (d * 2 ^ p) (omega arith) (subnormal_value b l); digits = D; power = P }
+-- the pattern of a subnormal, moved up until the leading digit stands
+module _ (b : ℕ) (some : 0 < b) (few : b < 2 ^ 23) where
+  abbrev zeros : ℕ
+  zeros = count_leading_zeros 32 b
 
--- one digit goes from the power to d
-pub turn : (d p v : ℕ) → 0 < p → d * 2 ^ p ≡ v → d * 2 * 2 ^ (p - 1) ≡ v
-turn d zero v P e = absurd (omega arith)
-turn d (suc p) v P e =
-    let g : suc p - 1 ≡ p = omega arith in
-    ap (λ (k : ℕ). d * 2 * 2 ^ k) g ∙ omega (arith, rw (pow-suc 2 p) at e)
+  abbrev up : ℕ
+  up = zeros - 8
 
--- while d is below 2 ^ 23, the power is above 24
-pub room : (d p b : ℕ) → 0 < b → d < 2 ^ 23 → d * 2 ^ p ≡ b * 2 ^ 47 → 24 < p
-room d p b B l e = lt_of_not-le (λ (g : p ≤ 24). omega (arith, mul-le-mul_left d (pow_mono g)))
+  place : (j : ℕ) × (j + up ≡ 23) × (9 ≤ zeros) × (zeros < 32) × (2 ^ j ≤ b) × (b < 2 ^ suc j)
+  place =
+      let t = leading_top 32 b some (omega arith) in
+      let small : t.0 < 23 = lt_of_not-le (λ (g : 23 ≤ t.0). omega (arith, pow_mono g, t.2)) in
+      (t.0, omega (arith, t.1), omega (arith, t.1), omega (arith, t.1), t.2, t.3)
+
+  pub room : 8 ≤ zeros
+  room = omega (arith, place)
+
+  whole : b * 2 ^ up % 2 ^ 32 ≡ b * 2 ^ up
+  whole = shl_whole b (suc place.0) up 32 place.5 (omega (arith, place))
+
+  top : 2 ^ place.0 * 2 ^ up ≡ 2 ^ 23
+  top = sym (pow-add 2 place.0 up) ∙ ap (λ (i : ℕ). 2 ^ i) {x = place.0 + up} {y = 23} place.1
+
+  same : b * 2 ^ up * 2 ^ (55 - zeros) ≡ b * 2 ^ 47
+  same =
+      let e : 2 ^ up * 2 ^ (55 - zeros) ≡ 2 ^ 47 = sym (pow-add 2 up (55 - zeros)) ∙ ap (λ (i : ℕ). 2 ^ i) {x = up + (55 - zeros)} {y = 47} (omega (arith, place)) in
+      omega (arith, ap (λ (i : ℕ). b * i) e)
+
+  pub subnormal_digits : Digits (of_bits binary32 b) (b * 2 ^ up % 2 ^ 32) (55 - zeros)
+  subnormal_digits = record {
+    of = finer (of_bits binary32 b) (b % 2 ^ 23 * 2 ^ 0) (b * 2 ^ up % 2 ^ 32 * 2 ^ (55 - zeros)) (rw whole (omega (arith, same))) (subnormal_value b few);
+    digits = (
+      omega (arith, whole, top, mul-le-mul_right (2 ^ up) place.4),
+      omega (arith, whole, top, rw (pow-suc 2 place.0) at (mul-lt-mul_of_pos_right place.5 (pow_pos up))),
+    );
+    power = (omega (arith, place), omega (arith, place));
+  }
 
 -- ---- from digits with a power to n * 4 ^ h
 
@@ -110,4 +137,4 @@ packed q h lo hi l =
     (subst (λ (k : ℕ). HasValue (of_bits binary32 b) false (k * 2 ^ (h + 51)) (2 ^ 149)) (omega arith) (normal_value b (h + 51) (omega arith) (omega arith)))
 
 pub no_nan : (b : ℕ) → b ≤ 255 * 2 ^ 23 → T (not (nan_bits binary32 b))
-no_nan b l = subst (λ (t : Bool). T (not t)) (sym (nan_bits_above binary32 b ∙ le-ltb (255 * 2 ^ 23) (b % 2 ^ 31) (omega arith))) tt
+no_nan b l = T_from_false _ (nan_bits_above binary32 b ∙ le-ltb (255 * 2 ^ 23) (b % 2 ^ 31) (omega arith))

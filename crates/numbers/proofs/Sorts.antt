@@ -1,6 +1,6 @@
 -- The kinds of numbers: which have a root by digits, what their patterns are, and what becomes of the rest.
-use Rattle.std.proofs.Common.{◌≡◌, ℕ, zero, suc, ◌+◌, ◌-◌, ◌*◌, ◌/◌, ◌%◌, ◌^◌, ◌<◌, ◌≤◌, Bool, true, false, cond, ◌&&◌, T, eqb, ltb, leb, ◌⊎◌, ℤ, pos, sym, refl, subst, inl, inr, true≢false, div-lt_iff_lt-mul, eq-zero-or-pos, mul-pos, le-div_iff_mul-le, arith, ltb→lt, leb→le, pow_pos, ltb-true, le-ltb, lt-ltb, eq-eqb, ne_eqb, le-leb}
-use Rattle.std.proofs.lemmas.Bool.{cases_lt}
+use Rattle.std.proofs.Common.{◌≡◌, ℕ, zero, suc, ◌+◌, ◌-◌, ◌*◌, ◌/◌, ◌%◌, ◌^◌, ◌<◌, ◌≤◌, Bool, true, false, cond, ◌&&◌, T, eqb, ltb, leb, ℤ, pos, sym, refl, subst, inl, inr, true≢false, div-lt_iff_lt-mul, eq-zero-or-pos, mul-pos, le-div_iff_mul-le, arith, ltb→lt, leb→le, pow_pos, ltb-true, le-ltb, lt-ltb, eq-eqb, ne_eqb}
+use Rattle.std.proofs.lemmas.Bool.{cases_Bool, and_parts}
 use lib.Ieee.{Float, nan, inf, fin, binary32, up, down, size, lt, eq, le, to_bits, of_bits, fits}
 use lib.Ieee.Digits.{size-le}
 use lib.Ieee.Fits.{up_pos, down_pos, and_l, and_r, kept-lt}
@@ -37,13 +37,9 @@ some m e = mul-pos {m = suc m} (omega arith) (up_pos e)
 
 -- ---- a number above zero
 
-first : (a b : Bool) → (a && b) ≡ true → a ≡ true
-first true b h = refl
-first false b h = h
-
 not_above_zero : (e : ℤ) → above (fin false zero e) ≡ true → ⊥
 unfolding lt
-not_above_zero e t = omega (arith, ltb-true (0 * 1 * down e) (0 * up e * 1) (first (ltb (0 * 1 * down e) (0 * up e * 1)) true t))
+not_above_zero e t = omega (arith, ltb-true (0 * 1 * down e) (0 * up e * 1) (and_parts (ltb (0 * 1 * down e) (0 * up e * 1)) true t).0)
 
 pub by_digits : (x r : Float) → RootBetween x r → NearestRoot x r
 by_digits nan r h = absurd h.scaled.of
@@ -95,20 +91,10 @@ rest (fin false zero e) t = rw (le-ltb (0 * 1 * down e) (0 * up e * 1) (omega ar
 rest (fin true (suc m) e) t = rw (ne_eqb (0 * 1 * down e) (suc m * up e * 1) (omega (arith, some m e))) refl
 rest (fin false (suc m) e) t = absurd (true≢false (rw (lt-ltb (0 * 1 * down e) (suc m * up e * 1) (omega (arith, some m e))) at t))
 
--- ---- as the code has the tests: by the pattern, and then by the sign
-
-pub outside : (b : ℕ) → (leb (2 ^ 23) b && ltb b (255 * 2 ^ 23)) ≡ false → (ltb 0 b && ltb b (2 ^ 23)) ≡ false → 0 < b → b < 255 * 2 ^ 23 → ⊥
-outside b n s lo hi = elim (cases_lt b (2 ^ 23)) [
-  | inl l ↦ true≢false (rw (lt-ltb 0 b lo, lt-ltb b (2 ^ 23) l) at s)
-  | inr g ↦ true≢false (rw (le-leb (2 ^ 23) b g, lt-ltb b (255 * 2 ^ 23) hi) at n)
-]
-
-yes_or_no : (b : Bool) → (b ≡ true) ⊎ (b ≡ false)
-yes_or_no true = inl refl
-yes_or_no false = inr refl
+-- ---- by the sign, where the pattern is of no number above zero
 
 pub by_sign : (x : Float) → T (fits binary32 x) → (0 < to_bits binary32 x → to_bits binary32 x < 255 * 2 ^ 23 → ⊥) → NearestRoot x (kept_from_zero x)
-by_sign x f none = subst (λ (r : Float). NearestRoot x r) (sym (kept_is x)) (elim (yes_or_no (above x)) [
+by_sign x f none = subst (λ (r : Float). NearestRoot x r) (sym (kept_is x)) (elim (cases_Bool (above x)) [
   | inl t ↦ let b = above_bits x f t in absurd (none b.0 b.1)
   | inr t ↦ rest x t
 ])

@@ -1,23 +1,13 @@
 -- Whole numbers: the part of a root before the point, and a fraction's nearest whole number.
-use Rattle.std.proofs.Common.{◌≡◌, ℕ, zero, suc, ◌+◌, ◌-◌, ◌*◌, ◌/◌, ◌%◌, ◌^◌, ◌<◌, ◌≤◌, Bool, true, false, cond, not, T, eqb, leb, sym, refl, ap, ◌∙◌, subst, lt_of_lt_of_le, mul-le-mul_right, mod-lt, mul-le-mul, lt_of_mul-lt-mul_right, pow-suc, lt_of_not-le, div-add-mod', not-le_of_lt, arith, eqb→eq, leb→le, pow_mono, pow-add, eqb-true, leb-false, leb-true}
+use Rattle.std.proofs.Common.{◌≡◌, ℕ, zero, suc, ◌+◌, ◌-◌, ◌*◌, ◌/◌, ◌%◌, ◌^◌, ◌<◌, ◌≤◌, Bool, true, false, cond, not, T, eqb, sym, refl, ap, ◌∙◌, subst, lt_of_lt_of_le, mod-lt, mul-le-mul, lt_of_mul-lt-mul_right, lt_of_not-le, div-add-mod', not-le_of_lt, arith, eqb→eq, leb→le, pow_mono, pow-add, eqb-true}
 use Prim.Native.Nat.{compare, Ordering}
 use lib.Dec.{is_le, compare_is_eq, nleb→lt}
 use lib.Ieee.{size, nearest, root_below, root_twice}
 use lib.Ieee.Digits.{size-lt, size-le}
 use lib.Ieee.Nearest.{closest}
+use lib.Ieee.Root.{Root, whole_part}
+use Rattle.std.proofs.lemmas.Nat.{mul-pow}
 use Rattle.numbers.specs.Roots.{Nearest}
-
-abbrev Root : ℕ → ℕ → Type 0
-Root s n = (s * s ≤ n) × (n < (s + 1) * (s + 1))
-
-digit : (r n : ℕ) (b : Bool) → Root r (n / 4) → leb ((2 * r + 1) * (2 * r + 1)) n ≡ b → Root (cond b (2 * r + 1) (2 * r)) n
-digit r n true h e = (leb-true _ _ e, omega (arith, h.1))
-digit r n false h e = (omega (arith, h.0), leb-false _ _ e)
-
-is_below : (k n : ℕ) → n < 2 ^ k → Root (root_below k n) n
-unfolding root_below
-is_below zero n h = omega arith
-is_below (suc k) n h = digit (root_below k (n / 4)) n _ (is_below k (n / 4) (omega arith)) refl
 
 pub lt_of_squares : (a b : ℕ) → a * a < b * b → a < b
 lt_of_squares a b h = lt_of_not-le (λ (g : b ≤ a). omega (arith, mul-le-mul g g))
@@ -29,7 +19,7 @@ module _ (v : ℕ) where
   s = root_below (size v) v
 
   is_root : Root s v
-  is_root = is_below (size v) v (size-lt v)
+  is_root = whole_part v
 
   pub twice_above : (w : ℕ) → w * w < v → 2 * w < root_twice v
   unfolding root_twice
@@ -61,8 +51,7 @@ pub merge : (a b c d : ℕ) → a + b ≡ c + d → 2 ^ a * 2 ^ b ≡ 2 ^ c * 2 
 merge a b c d e = sym (pow-add 2 a b) ∙ ap (λ (k : ℕ). 2 ^ k) e ∙ pow-add 2 c d
 
 pub four : (h : ℕ) → 4 ^ h ≡ 2 ^ h * 2 ^ h
-four zero = refl
-four (suc h) = rw (pow-suc 4 h, pow-suc 2 h) (omega (arith, four h))
+four h = mul-pow 2 2 h
 
 pub size_is : (n j : ℕ) → 2 ^ j ≤ n → n < 2 ^ (j + 1) → size n ≡ j + 1
 size_is n j lo hi =
@@ -112,9 +101,3 @@ with_halves n zero a b = record { above = omega arith; below = omega arith }
 with_halves n (suc p) a b =
     let e : 2 * suc p - 1 ≡ 2 * p + 1 = omega arith in
     record { above = subst (λ (i : ℕ). i * i < 4 * n) (sym e) (omega arith); below = omega arith }
-
-pub digits_24 : (n q : ℕ) → 2 ^ 46 ≤ n → n + 2 ^ 24 ≤ 2 ^ 48 → q * q < n + q → n ≤ q * q + q → (2 ^ 23 ≤ q) × (q < 2 ^ 24)
-digits_24 n q lo hi a b =
-    let more : 2 ^ 23 - 1 < q = lt_of_not-le (λ (g : q ≤ 2 ^ 23 - 1). omega (arith, mul-le-mul_right q g)) in
-    let less : q < 2 ^ 24 = lt_of_not-le (λ (g : 2 ^ 24 ≤ q). omega (arith, mul-le-mul_right q g)) in
-    (omega arith, less)

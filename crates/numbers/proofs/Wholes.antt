@@ -4,6 +4,7 @@ use lib.Ieee.{Float, nan, inf, fin, binary32, up, down, round, fits}
 use lib.Ieee.Back.{round_whole}
 use lib.Ieee.Exact.{HasValue, round_exact}
 use lib.Ieee.Fits.{down_pos, and_l, and_r}
+use Rattle.std.proofs.lemmas.Float.{T_from_true}
 use Rattle.std.specs.Float.{ceil, round_with, ratio_ceil, ratio_floor}
 use Rattle.numbers.specs.Steps.{Ceiling}
 
@@ -53,9 +54,12 @@ whole_down n d e = ap (λ (i : ℕ). n / i) e ∙ div-one n
 part_down : (m u d : ℕ) → u ≡ 1 → ratio_floor (m * u) d ≤ m
 part_down m u d e = omega (arith, div-le_self (m * u) d, ap (λ (i : ℕ). m * i) e)
 
-pub ceiling : (x : Float) → T (fits binary32 x) → Ceiling x (ceil binary32 x)
+ceiling : (x : Float) → T (fits binary32 x) → Ceiling x (ceil binary32 x)
 unfolding round_with
 ceiling nan f = refl
 ceiling (inf s) f = refl
 ceiling (fin false m e) f = let k = raise (m * up e) (down e) (down_pos e) in (ratio_ceil (m * up e) (down e), value false m e _ (within false m e f) (whole_up (m * up e) (down e)) (part_up m (up e) (down e) (down_pos e)), k.0, k.1)
 ceiling (fin true m e) f = let k = lower (m * up e) (down e) (down_pos e) in (ratio_floor (m * up e) (down e), value true m e _ (within true m e f) (whole_down (m * up e) (down e)) (part_down m (up e) (down e)), k.0, k.1)
+
+pub ceiling_is : (x y : Float) → fits binary32 x ≡ true → y ≡ ceil binary32 x → Ceiling x y
+ceiling_is x y f e = rw e (ceiling x (T_from_true _ f))

@@ -12,7 +12,8 @@ mod root;
 
 pub use root::sqrt;
 
-/// `x`, or the bound that it passes; a NaN stays.
+/// `x`, or the bound that it passes; a NaN stays. The library's `clamp` asks its caller for bounds in
+/// order.
 pub fn clamp(x: f32, low: f32, high: f32) -> f32
     ensures { result ≡ kept_within x low high }
 {
@@ -32,16 +33,11 @@ pub fn square(x: f32) -> f32
     x * x
 }
 
-fn next_whole(x: f32) -> f32
-    ensures { result ≡ Floats.ceil binary32 x }
-{
-    x.ceil()
-}
-
 /// The least whole number that is not below `x`; -0.5 gives -0.0.
+#[tactic(auto, using(crate::proofs::Wholes::ceiling_is))]
 pub fn ceil(x: f32) -> f32
     ensures value { result ≡ Floats.ceil binary32 x }
     ensures least { Ceiling x result }
 {
-    next_whole(x)
+    x.ceil()
 }

@@ -5,6 +5,7 @@
 
 use std::num::{f32_from_bits_with_nan, f32_to_bits_with_nan};
 
+// A match, since the name is a word of the input: a table of functions by name would be searched.
 fn step(name: &str, x: f32) -> f32 {
     match name {
         "sqrt" => numbers::sqrt(x),

@@ -1,8 +1,11 @@
 ghost use Rattle.std.specs.Prelude.{◌≡◌};
 ghost use Rattle.path.specs.Refusals.{number_of};
+ghost use Rattle.path.specs.declared.refusal.Reason.TheVariants as reason_is;
+
+use crate::style;
 
 /// Why a call was refused. Each reason has a fixed number.
-#[derive(Clone, Copy)]
+#[derive(Clone, Copy, Debug, PartialEq, Eq)]
 pub enum Reason {
     /// A job's letter is none of the format's.
     UnknownLetter = 10,
@@ -14,16 +17,24 @@ pub enum Reason {
     ListFull = 13,
 }
 
-impl Reason {
-    pub fn number(self) -> u8
-        ensures { result ≡ number_of self }
-    {
-        self as u8
+impl From<Reason> for u8 {
+    ghost from_gives = { λ reason n. n ≡ number_of reason };
+
+    fn from(reason: Reason) -> u8 {
+        reason as u8
+    }
+}
+
+impl From<style::UnknownShape> for Reason {
+    ghost from_gives = { λ _ r. r ≡ reason_is.UnknownShape };
+
+    fn from(_: style::UnknownShape) -> Reason {
+        Reason::UnknownShape
     }
 }
 
 /// What a refused call answers: why, where, and how many commands its sink took before.
-#[derive(Clone, Copy)]
+#[derive(Clone, Copy, Debug, PartialEq, Eq)]
 pub struct Refusal {
     pub reason: Reason,
     pub place: usize,

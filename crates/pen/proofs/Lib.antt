@@ -1,2 +1,2 @@
-mod Halves
+pub mod Halves
 pub mod Widths

@@ -8,27 +8,32 @@ use Rattle.path.specs.declared.style.Join.TheVariants.{Bevel as BevelJoin, Miter
 use Rattle.path.specs.Vectors.{sum, multiple, dot_product, normalized, near}
 use Rattle.curves.specs.Curves.{half}
 use Rattle.pen.specs.declared.nib.Nib.{Nib}
+use Rattle.pen.specs.declared.corner.Turn.{Turn}
 use Rattle.pen.specs.declared.corner.Corner.{Corner}
 use Rattle.pen.specs.declared.corner.Corner.TheVariants.{Meet, Inner, Bevel, Round, NegativeDot, PastLimit, Miter}
 
 abbrev pub clockwise : Vector → Vector → Bool
 clockwise a b = lt (a.y ⊗ b.x) (a.x ⊗ b.y)
 
--- of half the angle between two sides with these normals
-abbrev pub half_turn_sine : Vector → Vector → Float
-half_turn_sine n m = root ((one ⊕ dot_product n m) ⊗ half)
+-- of the two normals
+abbrev pub turn_dot : Turn → Float
+turn_dot t = dot_product t.from_normal t.to_normal
 
-abbrev pub miter_corner : Nib → Vector → Vector → Corner
-miter_corner nib n m = cond (lt (dot_product n m) zero) NegativeDot (cond (lt (half_turn_sine n m) nib.inv_miter_limit) PastLimit Miter)
+-- of half the angle between the two sides
+abbrev pub half_turn_sine : Turn → Float
+half_turn_sine t = root ((one ⊕ turn_dot t) ⊗ half)
+
+abbrev pub miter_corner : Nib → Turn → Corner
+miter_corner nib t = cond (lt (turn_dot t) zero) NegativeDot (cond (lt (half_turn_sine t) nib.inv_miter_limit) PastLimit Miter)
 
 abbrev pub by_join : Join → Corner → Corner
 by_join BevelJoin _ = Bevel
 by_join RoundJoin _ = Round
 by_join MiterJoin mitered = mitered
 
-abbrev pub corner_of : Nib → Vector → Vector → Vector → Vector → Corner
-corner_of nib from to n m = cond (near from to) Meet (cond (clockwise n m) (by_join nib.join (miter_corner nib n m)) Inner)
+abbrev pub corner_of : Nib → Turn → Corner
+corner_of nib t = cond (near t.from t.to) Meet (cond (clockwise t.from_normal t.to_normal) (by_join nib.join (miter_corner nib t)) Inner)
 
 -- along the middle of the normals, so far that both sides keep the radius
-abbrev pub miter_point : Nib → Vector → Vector → Vector → Vector
-miter_point nib pivot n m = sum pivot (multiple (normalized (sum n m)) (nib.radius ⊘ half_turn_sine n m))
+abbrev pub miter_point : Nib → Turn → Vector
+miter_point nib t = sum t.pivot (multiple (normalized (sum t.from_normal t.to_normal)) (nib.radius ⊘ half_turn_sine t))

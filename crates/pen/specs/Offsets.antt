@@ -28,17 +28,21 @@ offset_line i l r =
     let end = sum l.b (multiple n r) in
     offset (Line i (line start end)) i start end n n l.b
 
+-- of the first of two legs that is not short, else of the whole chord
+abbrev pub leg_normal : StraightLine → StraightLine → StraightLine → Vector
+leg_normal leg next whole = cond (short leg.a leg.b) (cond (short next.a next.b) (normal_of whole.a whole.b) (normal_of next.a next.b)) (normal_of leg.a leg.b)
+
 -- of the first leg, else of a to c, else of a to d
 abbrev pub first_normal : CubicCurve → Vector
-first_normal k = cond (short k.a k.b) (cond (short k.a k.c) (normal_of k.a k.d) (normal_of k.a k.c)) (normal_of k.a k.b)
+first_normal k = leg_normal (line k.a k.b) (line k.a k.c) (line k.a k.d)
 
 -- of the middle leg, else of b to d, else of a to d
 abbrev pub middle_normal : CubicCurve → Vector
-middle_normal k = cond (short k.b k.c) (cond (short k.b k.d) (normal_of k.a k.d) (normal_of k.b k.d)) (normal_of k.b k.c)
+middle_normal k = leg_normal (line k.b k.c) (line k.b k.d) (line k.a k.d)
 
 -- of the last leg, else of b to d, else of a to d
 abbrev pub last_normal : CubicCurve → Vector
-last_normal k = cond (short k.c k.d) (cond (short k.b k.d) (normal_of k.a k.d) (normal_of k.b k.d)) (normal_of k.c k.d)
+last_normal k = leg_normal (line k.c k.d) (line k.b k.d) (line k.a k.d)
 
 -- between two legs: along the middle of their normals, so far that both sides keep the radius
 abbrev pub bent : Vector → Vector → Float → Vector

@@ -1,13 +1,24 @@
 ghost use Rattle.std.specs.Prelude.{◌≡◌};
-ghost use Rattle.pen.specs.Corners.{clockwise, half_turn_sine, miter_corner, corner_of, miter_point};
+ghost use Rattle.pen.specs.Corners.{clockwise, turn_dot, half_turn_sine, miter_corner, corner_of, miter_point};
 
 use crate::nib::Nib;
 use numbers::sqrt;
 use path::geometry::{Point, Vector};
 use path::style::Join;
 
+/// A place where two sides of a stroke come together: the end of one and the start of the next, the
+/// point between them on the path, and the normals of both.
+#[derive(Clone, Copy, Debug, PartialEq)]
+pub struct Turn {
+    pub from: Point,
+    pub to: Point,
+    pub pivot: Point,
+    pub from_normal: Vector,
+    pub to_normal: Vector,
+}
+
 /// What shapes a corner. Each case holds exactly where its own condition does and none before it.
-#[derive(Clone, Copy)]
+#[derive(Clone, Copy, Debug, PartialEq, Eq)]
 pub enum Corner {
     /// The two ends meet.
     Meet,
@@ -32,48 +43,58 @@ pub fn is_clockwise(a: Vector, b: Vector) -> bool
     a.x * b.y > a.y * b.x
 }
 
-impl Corner {
-    /// The corner between the end of one side and the start of the next, with the normals there.
-    pub fn between(nib: Nib, from: Point, to: Point, n: Vector, m: Vector) -> Corner
-        ensures { result ≡ corner_of nib from to n m }
+impl Turn {
+    // The cosine of the angle between the two normals.
+    fn dot(self) -> f32
+        ensures { result ≡ turn_dot self }
     {
-        if from.nearly_eq(to) {
+        self.from_normal.dot(self.to_normal)
+    }
+
+    // The sine of half the angle between the two sides.
+    fn sin_half(self) -> f32
+        ensures { result ≡ half_turn_sine self }
+    {
+        sqrt((1.0 + self.dot()) * 0.5)
+    }
+}
+
+impl Corner {
+    /// What shapes the corner at a turn.
+    pub fn between(nib: Nib, turn: Turn) -> Corner
+        ensures { result ≡ corner_of nib turn }
+    {
+        if turn.from.nearly_eq(turn.to) {
             return Corner::Meet;
         }
-        if !is_clockwise(n, m) {
+        if !is_clockwise(turn.from_normal, turn.to_normal) {
             return Corner::Inner;
         }
         match nib.join {
             Join::Bevel => Corner::Bevel,
             Join::Round => Corner::Round,
-            Join::Miter => miter_corner(nib, n, m),
+            Join::Miter => miter_corner(nib, turn),
         }
     }
 }
 
-fn miter_corner(nib: Nib, n: Vector, m: Vector) -> Corner
-    ensures { result ≡ miter_corner nib n m }
+fn miter_corner(nib: Nib, turn: Turn) -> Corner
+    ensures { result ≡ miter_corner nib turn }
 {
-    if n.dot(m) < 0.0 {
+    if turn.dot() < 0.0 {
         Corner::NegativeDot
-    } else if sin_half(n, m) < nib.inv_miter_limit {
+    } else if turn.sin_half() < nib.inv_miter_limit {
         Corner::PastLimit
     } else {
         Corner::Miter
     }
 }
 
-// The sine of half the angle between the two sides.
-fn sin_half(n: Vector, m: Vector) -> f32
-    ensures { result ≡ half_turn_sine n m }
-{
-    sqrt((1.0 + n.dot(m)) * 0.5)
-}
-
 /// Where the two sides of a miter meet.
-pub fn miter_point(nib: Nib, pivot: Point, n: Vector, m: Vector) -> Point
-    ensures { result ≡ miter_point nib pivot n m }
+pub fn miter_point(nib: Nib, turn: Turn) -> Point
+    ensures { result ≡ miter_point nib turn }
 {
-    let mid = n.add(m).normalize().mul(nib.radius / sin_half(n, m));
-    pivot.add(mid)
+    let normals = turn.from_normal.add(turn.to_normal);
+    let mid = normals.normalize().mul(nib.radius / turn.sin_half());
+    turn.pivot.add(mid)
 }

@@ -1,5 +1,5 @@
 ghost use Rattle.std.specs.Prelude.{◌≡◌};
-ghost use Rattle.pen.specs.Offsets.{first_normal, middle_normal, last_normal, bent, offset_line, offset_curve, offset_end, offset_of};
+ghost use Rattle.pen.specs.Offsets.{leg_normal, bent, offset_line, offset_curve, offset_end, offset_of};
 
 use curves::curve::Curve;
 use curves::line::Line;
@@ -13,7 +13,7 @@ const SHORT: f32 = 0.5;
 
 /// A segment moved sideways by the radius: the moved segment with its ends, the normals there, and
 /// the point about which the stroke turns at its end.
-#[derive(Clone, Copy)]
+#[derive(Clone, Copy, Debug, PartialEq)]
 pub struct OffsetSegment {
     pub segment: Segment,
     pub id: SegmentId,
@@ -54,40 +54,16 @@ fn offset_line(id: SegmentId, line: Line, radius: f32) -> OffsetSegment
     }
 }
 
-// The normal at the start: that of the first leg, or of the first chord from there that is not short.
-fn first_normal(c: Curve) -> Vector
-    ensures { result ≡ first_normal c }
+// The normal of the first leg that is not short, or of the whole chord where both are.
+fn leg_normal(leg: Line, next: Line, whole: Line) -> Vector
+    ensures { result ≡ leg_normal leg next whole }
 {
-    if !c.a.nearly_eq_by(c.b, SHORT) {
-        normal(c.a, c.b)
-    } else if c.a.nearly_eq_by(c.c, SHORT) {
-        normal(c.a, c.d)
+    if !leg.a.nearly_eq_by(leg.b, SHORT) {
+        normal(leg.a, leg.b)
+    } else if !next.a.nearly_eq_by(next.b, SHORT) {
+        normal(next.a, next.b)
     } else {
-        normal(c.a, c.c)
-    }
-}
-
-fn middle_normal(c: Curve) -> Vector
-    ensures { result ≡ middle_normal c }
-{
-    if !c.b.nearly_eq_by(c.c, SHORT) {
-        normal(c.b, c.c)
-    } else if c.b.nearly_eq_by(c.d, SHORT) {
-        normal(c.a, c.d)
-    } else {
-        normal(c.b, c.d)
-    }
-}
-
-fn last_normal(c: Curve) -> Vector
-    ensures { result ≡ last_normal c }
-{
-    if !c.c.nearly_eq_by(c.d, SHORT) {
-        normal(c.c, c.d)
-    } else if c.b.nearly_eq_by(c.d, SHORT) {
-        normal(c.a, c.d)
-    } else {
-        normal(c.b, c.d)
+        normal(whole.a, whole.b)
     }
 }
 
@@ -102,9 +78,10 @@ fn bent(n: Vector, m: Vector, radius: f32) -> Vector
 fn offset_curve(id: SegmentId, c: Curve, radius: f32) -> OffsetSegment
     ensures { result ≡ offset_curve id c radius }
 {
-    let first = first_normal(c);
-    let middle = middle_normal(c);
-    let last = last_normal(c);
+    let whole = Line::new(c.a, c.d);
+    let first = leg_normal(Line::new(c.a, c.b), Line::new(c.a, c.c), whole);
+    let middle = leg_normal(Line::new(c.b, c.c), Line::new(c.b, c.d), whole);
+    let last = leg_normal(Line::new(c.c, c.d), Line::new(c.b, c.d), whole);
     let start = c.a.add(first.mul(radius));
     let end = c.d.add(last.mul(radius));
     let b = c.b.add(bent(first, middle, radius));

@@ -10,5 +10,6 @@ mod make;
 #[derive(Clone, Copy)]
 pub struct Pen {
     nib: Nib,
+    // A model would be longer than this field, and would show clauses the same nib.
     ghost least: { T (le (from_bits binary32 0x3BA3_D70A) nib.radius) },
 }

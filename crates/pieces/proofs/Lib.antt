@@ -1,4 +1,3 @@
-mod Counts
 pub mod Few
 mod Halving
 mod Slicing

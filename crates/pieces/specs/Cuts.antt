@@ -1,27 +1,26 @@
 -- Where a curve is cut, and the pieces.
-use Rattle.std.specs.Prelude.{Bool, cond, ◌&&◌, List, [], ◌∷◌, ◌++◌, take, Float}
+use Rattle.std.specs.Prelude.{ℕ, suc, zero as zeroⁿ, Bool, cond, ◌&&◌, List, [], ◌∷◌, ◌++◌, filter, flat_map, Float}
 use Rattle.std.specs.Float.Ieee.{lt}
 use Rattle.numbers.specs.Arithmetic.{zero, one}
 use Rattle.maths.specs.Functions.{Functions}
 use Rattle.maths.specs.Questions.{Question}
 use Rattle.curves.specs.declared.curve.Curve.{Curve}
 use Rattle.curves.specs.Curves.{slice_of, half, needs_split, two_legs_near, merge_epsilon}
-use Rattle.curvature.specs.declared.roots.Roots.{Roots}
+use Rattle.curvature.specs.Roots.{Roots}
 use Rattle.curvature.specs.Bends.{bends, bend_questions}
 
 -- strictly between 0 and 1
 abbrev pub inside : Float → Bool
 inside t = lt zero t && lt t one
 
-unfoldable pub all_inside : List Float → List Float
-all_inside [] = []
-all_inside (t ∷ ts) = cond (inside t) (t ∷ all_inside ts) (all_inside ts)
+abbrev pub all_inside : List Float → List Float
+all_inside ts = filter inside ts
 
 abbrev pub cuts : Roots → List Float
-cuts r = all_inside (take r.count r.ts)
+cuts r = all_inside r.items
 
 -- from the last cut to the next one, and so on to the end
-unfoldable pub slices : Curve → Float → List Float → List Curve
+abbrev pub slices : Curve → Float → List Float → List Curve
 slices k last [] = slice_of k last one ∷ []
 slices k last (t ∷ ts) = slice_of k last t ∷ slices k t ts
 
@@ -33,15 +32,13 @@ between k (t ∷ ts) = slices k zero (t ∷ ts)
 abbrev pub between_cuts : Functions → Curve → List Curve
 between_cuts F k = between k (cuts (bends F k))
 
-abbrev pub halves : Curve → List Curve
-halves k = cond (needs_split k) (slice_of k zero half ∷ slice_of k half one ∷ []) (k ∷ [])
+-- the curve, or its halves where it needs a split, halved likewise
+abbrev pub halved : ℕ → Curve → List Curve
+halved zeroⁿ k = k ∷ []
+halved (suc n) k = cond (needs_split k) (halved n (slice_of k zero half) ++ halved n (slice_of k half one)) (k ∷ [])
 
-abbrev pub halved : Curve → List Curve
-halved k = cond (needs_split k) (halves (slice_of k zero half) ++ halves (slice_of k half one)) (k ∷ [])
-
-unfoldable pub all_halved : List Curve → List Curve
-all_halved [] = []
-all_halved (k ∷ ks) = halved k ++ all_halved ks
+abbrev pub all_halved : List Curve → List Curve
+all_halved ks = flat_map (halved 2) ks
 
 -- a curve with two short legs stays whole
 abbrev pub cut_up : Functions → Curve → List Curve

@@ -1,21 +1,23 @@
-ghost use Rattle.std.specs.Prelude.{◌≡◌, ◌+◌, ◌≤◌, [], ◌∷◌, ◌++◌, length};
+ghost use Rattle.std.specs.Prelude.{◌≡◌, ◌+◌, ◌^◌, ◌≤◌, ◌++◌, length};
 ghost use Rattle.maths.specs.Questions.{all_asked};
 ghost use Rattle.curvature.specs.Bends.{bend_questions};
 ghost use Rattle.curves.specs.Curves.{two_legs_near, merge_epsilon};
-ghost use Rattle.pieces.specs.Lists.{curves};
-ghost use Rattle.pieces.specs.Cuts.{inside, between, cuts, between_cuts, halves, halved, all_halved, cut_up, cut_questions};
+ghost use Rattle.fixed.specs.Places.{grown};
+ghost use Rattle.pieces.specs.Cuts.{inside, between, cuts, between_cuts, halved, all_halved, cut_up, cut_questions};
 
-use crate::pieces::Pieces;
+use crate::pieces::{Pieces, none};
 use curvature::bend::max_curvature;
 use curvature::roots::Roots;
 use curves::curve::{Curve, MERGE_EPSILON};
-use maths::host::{MathsHost, MathsMeaning};
+use fixed::FixedList;
+use maths::host::MathsHost;
 
 /// The curve cut where it bends most, strictly inside: one to four pieces.
-pub fn split_at_max_curvature<K: MathsHost>(curve: Curve, host: &mut K) -> Pieces
-    ensures answer { curves result ≡ between_cuts (K.MathsMeaning.functions host.old) curve }
-    ensures host { host.new ≡ all_asked K.MathsMeaning.asked host.old (bend_questions (K.MathsMeaning.functions host.old) curve) }
-    ensures few { (1 ≤ length (curves result)) × (length (curves result) ≤ 4) }
+#[tactic(auto, using(crate::proofs::Few::between_cuts_few))]
+pub fn split_at_max_curvature<K: MathsHost>(curve: Curve, host: &mut K) -> FixedList<Curve, 4>
+    ensures answer { result.items ≡ between_cuts (K.functions host.old) curve }
+    ensures host { host.new ≡ all_asked K.asked host.old (bend_questions (K.functions host.old) curve) }
+    ensures few { (1 ≤ length result.items) × (length result.items ≤ 4) }
 {
     cut_at(curve, max_curvature(curve, host))
 }
@@ -26,64 +28,56 @@ fn is_inside(t: f32) -> bool
     0.0 < t && t < 1.0
 }
 
-fn cut_at(curve: Curve, roots: Roots) -> Pieces
-    ensures answer { curves result ≡ between curve (cuts roots) }
-    ensures few { (1 ≤ length (curves result)) × (length (curves result) ≤ 4) }
+fn cut_at(curve: Curve, roots: Roots) -> FixedList<Curve, 4>
+    ensures answer { result.items ≡ between curve (cuts roots) }
+    ensures some { 1 ≤ length result.items }
 {
-    let mut pieces = Pieces::none();
+    let mut pieces = FixedList::new(curve);
     let mut last = 0.0;
-    for i in 0..3usize {
-        let t = roots.ts[i];
-        if i < roots.count && is_inside(t) {
-            pieces.push(curve.slice(last, t));
-            last = t;
+    for t in roots.as_slice() {
+        if is_inside(*t) {
+            add(&mut pieces, curve.slice(last, *t));
+            last = *t;
         }
     }
-    if pieces.len() == 0 {
-        pieces.push(curve);
+    let rest = if pieces.len() == 0 {
+        curve
     } else {
-        pieces.push(curve.slice(last, 1.0));
-    }
+        curve.slice(last, 1.0)
+    };
+    add(&mut pieces, rest);
     pieces
 }
 
-// The curve, or its two halves where it needs a split.
-fn halve(pieces: &mut Pieces, curve: Curve)
-    requires { length (curves pieces.old) + 2 ≤ 16 }
-    ensures { curves pieces.new ≡ curves pieces.old ++ halves curve }
+// One curve more; the caller sees that there is a place.
+fn add<const N: usize>(pieces: &mut FixedList<Curve, N>, curve: Curve)
+    requires { 1 ≤ length pieces.old.spare }
+    ensures { pieces.new ≡ grown pieces.old curve }
 {
-    if curve.needs_split() {
+    let _ = pieces.push(curve);
+}
+
+// The curve, or its two halves where it needs a split, halved likewise as many times as are left.
+fn halve(pieces: &mut Pieces, curve: Curve, times: u8)
+    requires { 2 ^ times ≤ length pieces.old.spare }
+    ensures more { pieces.new.items ≡ pieces.old.items ++ halved times curve }
+    ensures room { length pieces.old.spare ≤ length pieces.new.spare + 2 ^ times }
+{
+    if times > 0 && curve.needs_split() {
         let (first, second) = curve.split(0.5);
-        pieces.push(first);
-        pieces.push(second);
+        halve(pieces, first, times - 1);
+        halve(pieces, second, times - 1);
     } else {
-        pieces.push(curve);
+        add(pieces, curve);
     }
 }
 
-// The same, and the halves halved likewise.
-fn halve_twice(pieces: &mut Pieces, curve: Curve)
-    requires { length (curves pieces.old) + 4 ≤ 16 }
-    ensures { curves pieces.new ≡ curves pieces.old ++ halved curve }
+fn halve_all(splits: FixedList<Curve, 4>) -> Pieces
+    ensures { result.items ≡ all_halved splits.items }
 {
-    if curve.needs_split() {
-        let (first, second) = curve.split(0.5);
-        halve(pieces, first);
-        halve(pieces, second);
-    } else {
-        pieces.push(curve);
-    }
-}
-
-fn halve_all(splits: Pieces) -> Pieces
-    requires { length (curves splits) ≤ 4 }
-    ensures { curves result ≡ all_halved (curves splits) }
-{
-    let mut pieces = Pieces::none();
-    for i in 0..splits.len() {
-        if let Some(curve) = splits.get(i) {
-            halve_twice(&mut pieces, curve);
-        }
+    let mut pieces = none();
+    for curve in splits.as_slice() {
+        halve(&mut pieces, *curve, 2);
     }
     pieces
 }
@@ -91,26 +85,12 @@ fn halve_all(splits: Pieces) -> Pieces
 /// The pieces of a curve: cut where it bends most, each piece halved at most twice; a curve with two
 /// short legs is left whole, and the host is not asked. There are one to 16 pieces.
 pub fn split_curve<K: MathsHost>(curve: Curve, host: &mut K) -> Pieces
-    ensures answer { curves result ≡ cut_up (K.MathsMeaning.functions host.old) curve }
-    ensures host { host.new ≡ all_asked K.MathsMeaning.asked host.old (cut_questions (K.MathsMeaning.functions host.old) curve) }
-    ensures few { (1 ≤ length (curves result)) × (length (curves result) ≤ 16) }
+    ensures answer { result.items ≡ cut_up (K.functions host.old) curve }
+    ensures host { host.new ≡ all_asked K.asked host.old (cut_questions (K.functions host.old) curve) }
+    ensures few { (1 ≤ length result.items) × (length result.items ≤ 16) }
 {
-    if stays_whole(curve) {
-        return whole(curve);
+    if curve.is_line(MERGE_EPSILON) {
+        return FixedList::filled(curve, &[curve]);
     }
     halve_all(split_at_max_curvature(curve, host))
-}
-
-fn stays_whole(curve: Curve) -> bool
-    ensures { result ≡ two_legs_near curve merge_epsilon }
-{
-    curve.is_line(MERGE_EPSILON)
-}
-
-fn whole(curve: Curve) -> Pieces
-    ensures { curves result ≡ curve ∷ [] }
-{
-    let mut pieces = Pieces::none();
-    pieces.push(curve);
-    pieces
 }

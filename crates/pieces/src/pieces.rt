@@ -1,14 +1,17 @@
-ghost use Rattle.std.specs.Prelude.{◌≡◌, ◌≤◌, length};
+ghost use Rattle.std.specs.Prelude.{◌≡◌, [], length};
 
 use curves::curve::Curve;
-
-mod list;
+use fixed::FixedList;
+use path::geometry::Point;
 
 /// Up to 16 curves, in order.
-#[derive(Clone, Copy)]
-pub struct Pieces {
-    curves: [Curve; 16],
-    count: usize,
-    ghost places: { length curves ≡ 16 },
-    ghost within: { count ≤ 16 },
+pub type Pieces = FixedList<Curve, 16>;
+
+/// No curves.
+pub fn none() -> Pieces
+    ensures empty { result.items ≡ [] }
+    ensures room { length result.spare ≡ 16 }
+{
+    let origin = Point::new(0.0, 0.0);
+    FixedList::new(Curve::new(origin, origin, origin, origin))
 }

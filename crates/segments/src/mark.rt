@@ -1,9 +1,9 @@
-ghost use Rattle.std.specs.Prelude.{◌≡◌, ◌<◌, ◌==◌};
+ghost use Rattle.std.specs.Prelude.{◌≡◌, ◌<◌};
 ghost use Rattle.segments.specs.Marks.{marked, after};
 
 /// The mark that all segments of one command share, so that a stroke can tell a corner of the path
 /// from a cut within a curve. Marks go from 0 to 254 and then from 0 again; 255 is no segment's mark.
-#[derive(Clone, Copy)]
+#[derive(Clone, Copy, Debug, PartialEq, Eq)]
 pub struct SegmentId {
     mark: u8,
 }
@@ -12,6 +12,7 @@ const FIRST: u8 = 0;
 
 const LAST: u8 = 254;
 
+// A mark and not an option: marks are eight bits by rule, and this one is no segment's.
 const NONE: u8 = 255;
 
 impl SegmentId {
@@ -42,17 +43,12 @@ impl SegmentId {
             }
         }
     }
+}
 
-    pub fn same(self, other: SegmentId) -> bool
-        ensures { result ≡ (self.mark == other.mark) }
-    {
-        self.mark == other.mark
-    }
+impl From<SegmentId> for u8 {
+    ghost from_gives = { λ id n. n ≡ id.mark };
 
-    pub fn number(self) -> u8
-        ensures { result ≡ self.mark }
-    {
-        let number = self.mark;
-        number
+    fn from(id: SegmentId) -> u8 {
+        id.mark
     }
 }

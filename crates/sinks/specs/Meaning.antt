@@ -1,9 +1,8 @@
 -- What a sink means.
-use Rattle.std.specs.Prelude.{ℕ, ◌-◌, Bool, cond, List, [], ◌∷◌, ◌++◌, nat_le}
+use Rattle.std.specs.Prelude.{ℕ, ◌-◌, Bool, cond, List, [], ◌∷◌, ◌++◌, Ok, Err, Result, nat_le}
 use Rattle.path.specs.declared.command.Command.{Command}
 use Rattle.path.specs.Kinds.{Kind, kind}
-use Rattle.sinks.specs.declared.sink.Sent.{Sent}
-use Rattle.sinks.specs.declared.sink.Sent.TheVariants.{Taken, Refused}
+use Rattle.sinks.specs.declared.sink.Refused.{Refused}
 
 pub record Meaning : Type 0 where
   pub list : List Command
@@ -19,8 +18,8 @@ takes m c = nat_le (m.price (kind c)) m.units
 abbrev pub joined : Meaning → Command → Meaning
 joined m c = record { list = m.list ++ (m.map c ∷ []); units = m.units - m.price (kind c); price = m.price; map = m.map }
 
-abbrev pub verdict : Meaning → Command → Sent
-verdict m c = cond (takes m c) Taken Refused
+abbrev pub verdict : Meaning → Command → Result (Unit {0}) Refused
+verdict m c = cond (takes m c) (Ok tt) (Err (record {}))
 
 -- a sink after it was sent a command: the one with the command taken, or as it was
 abbrev pub after : {S : Type 0} → (S → Meaning) → (S → Command → S) → S → Command → S

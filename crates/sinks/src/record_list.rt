@@ -3,11 +3,12 @@ ghost use Rattle.lent.specs.Lists.{empty, items, pushed};
 ghost use Rattle.sinks.specs.RecordLaws.{recorded_grows};
 ghost use Rattle.sinks.specs.Records.{recorded};
 
-use crate::sink::{ReadableSink, Sent, Sink, SinkMeaning};
+use crate::sink::{ReadableSink, Refused, Sink};
 use lent::Lent;
 use path::command::Command;
 
-/// A sink that keeps commands as they come, in places that the caller lends, until they are full.
+/// A sink that keeps commands as they come, in places that the caller lends, until they are full. By
+/// rule it is a kind of its own over the same container as a storage.
 #[derive(Drop)]
 pub struct RecordList<'a> {
     lent: Lent<'a, Command>,
@@ -31,7 +32,7 @@ impl<'a> RecordList<'a> {
     }
 }
 
-impl<'a> SinkMeaning for RecordList<'a> {
+impl<'a> Sink for RecordList<'a> {
     ghost meaning = { λ s. recorded s.lent };
 
     ghost took = { λ s c. record { lent = pushed s.lent c } };
@@ -39,14 +40,9 @@ impl<'a> SinkMeaning for RecordList<'a> {
     ghost kept = { λ s c. refl };
 
     ghost grows = { λ s c. recorded_grows s.lent c };
-}
 
-impl<'a> Sink for RecordList<'a> {
-    fn send(&mut self, c: Command) -> Sent {
-        match self.lent.push(c) {
-            Ok(()) => Sent::Taken,
-            Err(_) => Sent::Refused,
-        }
+    fn send(&mut self, c: Command) -> Result<(), Refused> {
+        self.lent.push(c).map_err(|_| Refused)
     }
 }
 

@@ -1,7 +1,7 @@
 -- The places of the two storages.
-use Rattle.std.specs.Prelude.{ℕ, ◌+◌, false, List, length, take, replicate, slice_set}
+use Rattle.std.specs.Prelude.{ℕ, false, ◌++◌, length}
+use Rattle.fixed.specs.Places.{Places, fresh as no_elements}
 use Rattle.lent.specs.declared.Lent.{Lent}
-use Rattle.segments.specs.declared.segment.Segment.{Segment}
 use Rattle.segments.specs.declared.segment.Segment.TheVariants.{End}
 use Rattle.storage.specs.declared.storage128.Storage128.{Storage128}
 
@@ -9,16 +9,9 @@ use Rattle.storage.specs.declared.storage128.Storage128.{Storage128}
 abbrev pub place_count : {X : Type 0} → Lent X → ℕ
 place_count l = length l.places.now
 
+-- how many places a list of its own has
+abbrev pub place_number : {X : Type 0} → Places X → ℕ
+place_number p = length (p.items ++ p.spare)
+
 abbrev pub fresh : Storage128
-fresh = record { segments = replicate 128 (End false); count = 0 }
-
--- the places that are taken
-abbrev pub filled : Storage128 → List Segment
-filled s = take s.count s.segments
-
-abbrev pub emptied : Storage128 → Storage128
-emptied s = record { segments = s.segments; count = 0 }
-
--- with one segment more: only the first free place is written
-abbrev pub extended : Storage128 → Segment → Storage128
-extended s x = record { segments = slice_set s.segments s.count x; count = s.count + 1 }
+fresh = record { list = no_elements 128 (End false) }

@@ -4,11 +4,12 @@ ghost use Rattle.storage.specs.Places.{place_count};
 ghost use Rattle.storage.specs.PlacesLemmas.{front_grows};
 ghost use Rattle.std.proofs.Common.{refl, length-set};
 
-use crate::storage::{Storage, StorageMeaning, Stored};
-use lent::Lent;
+use crate::storage::Storage;
+use lent::{Full, Lent};
 use segments::segment::Segment;
 
-/// A storage in places that the caller lends. The places after the segments keep what they held.
+/// A storage in places that the caller lends. The places after the segments keep what they held. By rule
+/// there are two storages, so each hands the four calls on to its list.
 #[derive(Drop)]
 pub struct LentStorage<'a> {
     lent: Lent<'a, Segment>,
@@ -24,7 +25,7 @@ impl<'a> LentStorage<'a> {
     }
 }
 
-impl<'a> StorageMeaning for LentStorage<'a> {
+impl<'a> Storage for LentStorage<'a> {
     ghost held = { λ s. items s.lent };
 
     ghost capacity = { λ s. place_count s.lent };
@@ -40,18 +41,13 @@ impl<'a> StorageMeaning for LentStorage<'a> {
     ghost grows = { λ s x fits. front_grows s.lent.places.now s.lent.count x fits };
 
     ghost same_pushed = { λ s x fits. length-set s.lent.places.now s.lent.count x };
-}
 
-impl<'a> Storage for LentStorage<'a> {
     fn clear(&mut self) {
         self.lent.clear();
     }
 
-    fn push(&mut self, segment: Segment) -> Stored {
-        match self.lent.push(segment) {
-            Ok(()) => Stored::Kept,
-            Err(_) => Stored::Full,
-        }
+    fn push(&mut self, segment: Segment) -> Result<(), Full> {
+        self.lent.push(segment)
     }
 
     fn len(&self) -> usize {

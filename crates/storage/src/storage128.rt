@@ -1,17 +1,17 @@
-ghost use Rattle.std.specs.Prelude.{◌≡◌, length};
-ghost use Rattle.storage.specs.Places.{fresh, filled, emptied, extended};
-ghost use Rattle.storage.specs.PlacesLemmas.{front_grows};
-ghost use Rattle.std.proofs.Common.{refl, length-set};
+ghost use Rattle.std.specs.Prelude.{◌≡◌, refl};
+ghost use Rattle.fixed.specs.Places.{pushed, cleared};
+ghost use Rattle.storage.specs.Places.{fresh, place_number};
+ghost use Rattle.storage.specs.PlacesLemmas.{own_grows, own_pushed};
 
-use crate::storage::{Storage, StorageMeaning, Stored};
-use lent::{element, front};
+use crate::storage::Storage;
+use fixed::FixedList;
+use lent::Full;
 use segments::segment::Segment;
 
 /// A storage that has 128 places itself. The places after the segments keep what they held.
-#[derive(Drop)]
+#[derive(Clone, Copy)]
 pub struct Storage128 {
-    segments: [Segment; 128],
-    count: usize,
+    list: FixedList<Segment, 128>,
 }
 
 impl Storage128 {
@@ -20,58 +20,41 @@ impl Storage128 {
         ensures { result ≡ fresh }
     {
         Storage128 {
-            segments: [Segment::End(false); 128],
-            count: 0,
+            list: FixedList::new(Segment::End(false)),
         }
-    }
-
-    fn filled(&self) -> &[Segment]
-        ensures { result.now ≡ filled self.now }
-    {
-        front(&self.segments, self.count)
     }
 }
 
-impl StorageMeaning for Storage128 {
-    ghost held = { filled };
+impl Storage for Storage128 {
+    ghost held = { λ s. s.list.items };
 
-    ghost capacity = { λ s. length s.segments };
+    ghost capacity = { λ s. place_number s.list };
 
-    ghost cleared = { emptied };
+    ghost cleared = { λ s. record { list = cleared s.list } };
 
-    ghost pushed = { extended };
+    ghost pushed = { λ s x. record { list = pushed s.list x } };
 
     ghost empties = { λ s. refl };
 
     ghost same_cleared = { λ s. refl };
 
-    ghost grows = { λ s x fits. front_grows s.segments s.count x fits };
+    ghost grows = { λ s x fits. own_grows s.list x fits };
 
-    ghost same_pushed = { λ s x fits. length-set s.segments s.count x };
-}
+    ghost same_pushed = { λ s x fits. own_pushed s.list x fits };
 
-impl Storage for Storage128 {
     fn clear(&mut self) {
-        self.count = 0;
+        self.list.clear();
     }
 
-    fn push(&mut self, segment: Segment) -> Stored {
-        // A slice's length is that of the list it means; an array's is the number in its type.
-        let places: &[Segment] = &self.segments;
-        if self.count < places.len() {
-            self.segments[self.count] = segment;
-            self.count += 1;
-            Stored::Kept
-        } else {
-            Stored::Full
-        }
+    fn push(&mut self, segment: Segment) -> Result<(), Full> {
+        self.list.push(segment)
     }
 
     fn len(&self) -> usize {
-        self.filled().len()
+        self.list.len()
     }
 
     fn get(&self, i: usize) -> Option<Segment> {
-        element(self.filled(), i)
+        self.list.get(i)
     }
 }

@@ -1,2 +1,3 @@
+mod Drawn
 mod Playing
 mod Walking

@@ -1,13 +1,13 @@
 -- What `play` does, apart from any code.
 use Rattle.std.proofs.Common.{◌≡◌, ℕ, ◌+◌, ◌<◌, ◌≤◌, Bool, true, false, cond, List, [], ◌∷◌, ◌++◌, map, length, get_or, drop, is_ok, is_err, Ok, Err, Result, sym, refl, ap, ◌∙◌, add-one, arith, length-append, drop_of_length-le, drop-cons}
 use lib.Ieee.{Float}
-use lib.ListN.{length-map}
 use Rattle.std.proofs.lemmas.Bool.{cond_both}
 use Rattle.maths.specs.Questions.{Question, all_asked}
 use Rattle.maths.specs.declared.host.Function.{Function}
 use Rattle.path.specs.declared.command.Command.{Command}
-use Rattle.sinks.specs.Meaning.{Meaning, takes}
-use Rattle.stroke.specs.Events.{Event, asks, sends, Drawing, drawing, alone, nobody, asked_then_sent, one, then, play}
+use Rattle.sinks.specs.Meaning.{Meaning, takes, verdict}
+use Rattle.sinks.specs.declared.sink.Refused.{Refused}
+use Rattle.stroke.specs.Events.{Event, asks, sends, Drawing, drawing, asked_then_sent, one, then, play}
 
 by_fields : {S K : Type 0} (b : Bool) (s s' : S) (k : K) (n n' : ℕ)
     → drawing (cond b s s') k (cond b n n') b ≡ cond b (drawing s k n true) (drawing s' k n' false)
@@ -66,22 +66,6 @@ module _ {S K : Type 0} (meaning : S → Meaning) (took : S → Command → S) (
     rw first (omega (arith, count_grows es d, simp length-append at (ap length split))),
   )
 
--- commands alone leave the host, whatever it is
-abbrev pub with_host : {S K : Type 0} → K → Drawing S (Unit {0}) → Drawing S K
-with_host k d = drawing d.sink k d.sent d.going
-
-module _ {S K : Type 0} (meaning : S → Meaning) (took : S → Command → S) (asked : K → Function → Float → K) where
-  pub sends_any_host : (cs : List Command) (s : S) (k : K) (n : ℕ) (b : Bool)
-      → play meaning took asked (map sends cs) (drawing s k n b) ≡ with_host k (play meaning took nobody (map sends cs) (alone s n b))
-  unfolding play
-  sends_any_host [] s k n b = refl
-  sends_any_host (c ∷ cs) s k n false = sends_any_host cs s k n false
-  sends_any_host (c ∷ cs) s k n true = elim (takes (meaning s) c) as (λ t. play meaning took asked (map sends cs) (cond t (drawing (took s c) k (n + 1) true) (drawing s k n false))
-      ≡ with_host k (play meaning took nobody (map sends cs) (cond t (alone (took s c) (n + 1) true) (alone s n false)))) [
-        | true ↦ sends_any_host cs (took s c) k (n + 1) true
-        | false ↦ sends_any_host cs s k n false
-      ]
-
 -- the commands that are left from a place on
 pub sends_left : (xs : List Command) (i : ℕ) (d : Command) → i < length xs → map sends (drop i xs) ≡ (sends (get_or xs i d) ∷ []) ++ map sends (drop (i + 1) xs)
 sends_left xs i d h = rw (add-one, drop-cons xs i d) refl
@@ -89,32 +73,17 @@ sends_left xs i d h = rw (add-one, drop-cons xs i d) refl
 pub sends_none : (xs : List Command) (i : ℕ) → length xs ≤ i → map sends (drop i xs) ≡ []
 sends_none xs i h = rw drop_of_length-le
 
--- questions asked and then commands sent, as a play of both
-pub asked_sent : {S K : Type 0} (meaning : S → Meaning) (took : S → Command → S) (asked : K → Function → Float → K) (qs : List Question) (cs : List Command)
-    (s : S) (k : K) (n : ℕ) {b : Bool} {s' : S} {k' : K} {n' : ℕ} {row : List Command} → k' ≡ all_asked asked k qs → row ≡ cs
-    → alone s' n' b ≡ play meaning took nobody (map sends row) (alone s n true)
-    → drawing s' k' n' b ≡ play meaning took asked (asked_then_sent qs cs) (drawing s k n true)
-asked_sent {S = S} meaning took asked qs cs s k n {k' = k'} host is sent =
-    ap (λ (d : Drawing S (Unit {0})). with_host k' d) sent ∙ sym (sends_any_host meaning took asked _ s k' n true)
-    ∙ (λ i. play meaning took asked (map sends (is i)) (drawing s (host i) n true))
-    ∙ ap (play meaning took asked (map sends cs)) (sym (play_asks meaning took asked qs s k n)) ∙ sym (play_append meaning took asked (map asks qs) (map sends cs) (drawing s k n true))
-
 -- the commands are part of the events
-pub room_to_send : (qs : List Question) (cs : List Command) (n bound : ℕ) {row : List Command} → row ≡ cs → n + length (asked_then_sent qs cs) < bound → n + length row < bound
-room_to_send qs cs n bound is room = omega (arith, ap length is, simp (length-append, length-map) at room)
+pub room_to_send : (qs : List Question) (cs : List Command) (n bound : ℕ) {row : List Command} → row ≡ cs → n + length (asked_then_sent qs cs) < bound → n + length (map sends row) < bound
+room_to_send qs cs n bound is room = omega (arith, ap (λ (r : List Command). length (map sends r)) is, simp length-append at room)
 
--- commands sent, with a host at hand that is not asked
-pub sent_beside : {S K : Type 0} (meaning : S → Meaning) (took : S → Command → S) (asked : K → Function → Float → K) (cs : List Command)
-    (s : S) (k : K) (n : ℕ) {b : Bool} {s' : S} {n' : ℕ} → alone s' n' b ≡ play meaning took nobody (map sends cs) (alone s n true)
-    → drawing s' k n' b ≡ play meaning took asked (map sends cs) (drawing s k n true)
-sent_beside {S = S} meaning took asked cs s k n sent = ap (λ (d : Drawing S (Unit {0})). with_host k d) sent ∙ sym (sends_any_host meaning took asked cs s k n true)
+-- a verdict is an acceptance where the sink takes the command
+pub made_taken : {S : Type 0} (meaning : S → Meaning) (c : Command) (s : S) (r : Result (Unit {0}) Refused) → r ≡ verdict (meaning s) c → is_ok r ≡ takes (meaning s) c
+made_taken meaning c s r is = ap is_ok is ∙ cond_both (takes (meaning s) c) _ _ (λ (v : Result (Unit {0}) Refused). is_ok v ≡ takes (meaning s) c) (λ e. sym e) (λ e. sym e)
 
 -- the first part of a row fits where the row does
-pub first_fits : (es fs : List Event) (n bound : ℕ) {es' : List Event} → es' ≡ es → n + length (es ++ fs) < bound → n + length es' < bound
-first_fits es fs n bound is room = omega (arith, ap length is, length-append es fs)
+pub part_fits : (es fs : List Event) (n bound : ℕ) {all : List Event} → all ≡ es ++ fs → n + length all < bound → n + length es < bound
+part_fits es fs n bound is room = omega (arith, ap length is, length-append es fs)
 
 pub same_fits : (es : List Event) (n bound : ℕ) {es' : List Event} → es' ≡ es → n + length es < bound → n + length es' < bound
 same_fits es n bound is room = omega (arith, ap length is)
-
-pub part_fits : (es fs : List Event) (n bound : ℕ) {all : List Event} → all ≡ es ++ fs → n + length all < bound → n + length es < bound
-part_fits es fs n bound is room = omega (arith, ap length is, length-append es fs)

@@ -24,13 +24,6 @@ pub record Drawing (S K : Type 0) : Type 0 where
 abbrev pub drawing : {S K : Type 0} → S → K → ℕ → Bool → Drawing S K
 drawing s k n going = record { sink = s; host = k; sent = n; going = going }
 
--- a drawing that asks no host
-abbrev pub alone : {S : Type 0} → S → ℕ → Bool → Drawing S (Unit {0})
-alone s n going = drawing s tt n going
-
-abbrev pub nobody : Unit {0} → Function → Float → Unit {0}
-nobody u f x = u
-
 -- S the sinks and K the hosts, with what they answer
 module _ {S K : Type 0} (meaning : S → Meaning) (took : S → Command → S) (asked : K → Function → Float → K) where
   -- one event of a drawing that goes on: it stops at a command that the sink refuses

@@ -1,7 +1,6 @@
 -- The outline of a run, as events.
 use Rattle.std.specs.Prelude.{ℕ, cond, List, [], ◌∷◌, ◌++◌, map, reverse, take, drop, ◌==◌, Float}
 use Rattle.maths.specs.Functions.{Functions}
-use Rattle.path.specs.declared.geometry.Vector.{Vector}
 use Rattle.path.specs.declared.command.Command.{Command}
 use Rattle.path.specs.declared.command.Command.TheVariants.{MoveTo, LineTo, CurveTo, Close}
 use Rattle.path.specs.declared.style.Cap.{Cap}
@@ -11,7 +10,7 @@ use Rattle.segments.specs.Pieces.{segment_reverse}
 use Rattle.pen.specs.declared.nib.Nib.{Nib}
 use Rattle.pen.specs.declared.offset.OffsetSegment.{OffsetSegment}
 use Rattle.pen.specs.Offsets.{offset_of}
-use Rattle.joins.specs.declared.joins.Turn.{Turn}
+use Rattle.pen.specs.declared.corner.Turn.{Turn}
 use Rattle.joins.specs.Joins.{join_commands, join_questions, shaped, shaped_questions, split_corner}
 use Rattle.joins.specs.Caps.{cap_commands, cap_questions}
 use Rattle.stroke.specs.Events.{Event, sends, asked_then_sent}
@@ -32,8 +31,12 @@ join_events F nib t = asked_then_sent (join_questions F nib t) (join_commands F 
 abbrev pub split_events : Functions → Nib → Turn → List Event
 split_events F nib t = asked_then_sent (shaped_questions F (split_corner t) nib t) (shaped F (split_corner t) nib t)
 
-abbrev pub cap_events : Functions → Cap → Float → Vector → Vector → Vector → List Event
-cap_events F shape r from to n = asked_then_sent (cap_questions F shape r from to) (cap_commands F shape r from to n)
+abbrev pub cap_events : Functions → Cap → Float → Turn → List Event
+cap_events F shape r t = asked_then_sent (cap_questions F shape r t) (cap_commands F shape r t)
+
+-- a join and the side after it
+abbrev pub one_forward : Functions → Nib → OffsetSegment → OffsetSegment → List Event
+one_forward F nib o p = join_events F nib (turn_between o p) ++ map sends (emitted p.segment)
 
 -- one side after another, each joined to the one before it
 unfoldable pub forward : Functions → Nib → OffsetSegment → List OffsetSegment → List Event
@@ -43,6 +46,9 @@ forward F nib o (p ∷ ps) = join_events F nib (turn_between o p) ++ (map sends 
 -- on the way back pieces of one command get the split join
 abbrev pub back_events : Functions → Nib → OffsetSegment → OffsetSegment → List Event
 back_events F nib o p = cond (p.id.mark == o.id.mark) (split_events F nib (turn_between o p)) (join_events F nib (turn_between o p))
+
+abbrev pub one_back : Functions → Nib → OffsetSegment → OffsetSegment → List Event
+one_back F nib o p = back_events F nib o p ++ map sends (emitted p.segment)
 
 unfoldable pub backward : Functions → Nib → OffsetSegment → List OffsetSegment → List Event
 backward F nib o [] = []
@@ -62,10 +68,10 @@ last_side o (p ∷ ps) = last_side p ps
 
 -- across the end of an open run, from its last side to its first other side
 abbrev pub end_cap_events : Functions → Nib → OffsetSegment → OffsetSegment → List Event
-end_cap_events F nib o p = cap_events F nib.end_cap nib.radius o.end p.start o.end_normal
+end_cap_events F nib o p = cap_events F nib.end_cap nib.radius (turn_between o p)
 
 abbrev pub start_cap_events : Functions → Nib → OffsetSegment → OffsetSegment → List Event
-start_cap_events F nib o p = cap_events F nib.start_cap nib.radius o.end p.start o.end_normal
+start_cap_events F nib o p = cap_events F nib.start_cap nib.radius (turn_between o p)
 
 abbrev pub cross_events : Functions → Nib → OffsetSegment → OffsetSegment → List Event
 cross_events F nib o p = end_cap_events F nib o p ++ map sends (emitted p.segment)

@@ -3,7 +3,7 @@
 
 mod ends;
 mod outline;
+mod outliner;
 mod parts;
 mod passes;
-mod sending;
 mod walks;

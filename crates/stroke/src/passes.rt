@@ -1,65 +1,48 @@
-ghost use Rattle.std.specs.Prelude.{◌≡◌, ◌+◌, ◌^◌, ◌<◌, true, ◌++◌, map, length, is_ok};
-ghost use Rattle.stroke.specs.Events.{sends, drawing, play};
-ghost use Rattle.stroke.specs.Outlines.{turn_between, emitted, join_events, back_events};
+ghost use Rattle.std.specs.Prelude.{◌≡◌, ◌==◌, is_ok};
+ghost use Rattle.stroke.specs.Outliners.{Drew, Fits};
+ghost use Rattle.stroke.specs.Outlines.{one_forward, back_events, one_back};
 
-use crate::parts::{add_join, add_split_join, emit, turn_between};
-use crate::sending::Full;
-use maths::host::{MathsHost, MathsMeaning};
-use pen::nib::Nib;
+use crate::outliner::Outliner;
+use maths::host::MathsHost;
 use pen::offset::OffsetSegment;
-use sinks::sink::{Sink, SinkMeaning};
+use sinks::sink::{Refused, Sink};
 
-// A join and the side after it.
-pub(crate) fn go_forward<S: Sink, K: MathsHost>(
-    sink: &mut S,
-    host: &mut K,
-    sent: &mut u64,
-    nib: Nib,
-    o: OffsetSegment,
-    p: OffsetSegment,
-) -> Result<(), Full>
-    requires { sent.old + length (join_events (K.MathsMeaning.functions host.old) nib (turn_between o p) ++ map sends (emitted p.segment)) < 2 ^ 64 }
-    ensures functions { K.MathsMeaning.functions host.new ≡ K.MathsMeaning.functions host.old }
-    ensures played { drawing sink.new host.new sent.new (is_ok result) ≡ play S.SinkMeaning.meaning S.SinkMeaning.took K.MathsMeaning.asked (join_events (K.MathsMeaning.functions host.old) nib (turn_between o p) ++ map sends (emitted p.segment)) (drawing sink.old host.old sent.old true) }
+// Whether two sides are pieces of one command.
+fn same_command(o: OffsetSegment, p: OffsetSegment) -> bool
+    ensures { result ≡ (p.id.mark == o.id.mark) }
 {
-    add_join(sink, host, sent, nib, turn_between(o, p))?;
-    emit(sink, sent, p.segment)
+    p.id == o.id
 }
 
-// The join between two sides on the way back: pieces of one command get the split join.
-fn join_back<S: Sink, K: MathsHost>(
-    sink: &mut S,
-    host: &mut K,
-    sent: &mut u64,
-    nib: Nib,
-    o: OffsetSegment,
-    p: OffsetSegment,
-) -> Result<(), Full>
-    requires { sent.old + length (back_events (K.MathsMeaning.functions host.old) nib o p) < 2 ^ 64 }
-    ensures functions { K.MathsMeaning.functions host.new ≡ K.MathsMeaning.functions host.old }
-    ensures played { drawing sink.new host.new sent.new (is_ok result) ≡ play S.SinkMeaning.meaning S.SinkMeaning.took K.MathsMeaning.asked (back_events (K.MathsMeaning.functions host.old) nib o p) (drawing sink.old host.old sent.old true) }
-{
-    let turn = turn_between(o, p);
-    if p.id.same(o.id) {
-        add_split_join(sink, host, sent, nib, turn)
-    } else {
-        add_join(sink, host, sent, nib, turn)
+impl<'a, S: Sink, K: MathsHost> Outliner<'a, S, K> {
+    // A join and the side after it.
+    pub(crate) fn go_forward(&mut self, o: OffsetSegment, p: OffsetSegment) -> Result<(), Refused>
+        requires { Fits self.old (one_forward (K.functions self.old.host.now) self.old.nib o p) }
+        ensures { Drew S.meaning S.took K.asked self.old self.new (one_forward (K.functions self.old.host.now) self.old.nib o p) (is_ok result) }
+    {
+        self.join(o, p)?;
+        self.emit(p.segment)
     }
-}
 
-// A join and the side after it, on the way back.
-pub(crate) fn go_back<S: Sink, K: MathsHost>(
-    sink: &mut S,
-    host: &mut K,
-    sent: &mut u64,
-    nib: Nib,
-    o: OffsetSegment,
-    p: OffsetSegment,
-) -> Result<(), Full>
-    requires { sent.old + length (back_events (K.MathsMeaning.functions host.old) nib o p ++ map sends (emitted p.segment)) < 2 ^ 64 }
-    ensures functions { K.MathsMeaning.functions host.new ≡ K.MathsMeaning.functions host.old }
-    ensures played { drawing sink.new host.new sent.new (is_ok result) ≡ play S.SinkMeaning.meaning S.SinkMeaning.took K.MathsMeaning.asked (back_events (K.MathsMeaning.functions host.old) nib o p ++ map sends (emitted p.segment)) (drawing sink.old host.old sent.old true) }
-{
-    join_back(sink, host, sent, nib, o, p)?;
-    emit(sink, sent, p.segment)
+    // The join between two sides on the way back: pieces of one command get the split join.
+    fn join_back(&mut self, o: OffsetSegment, p: OffsetSegment) -> Result<(), Refused>
+        requires { Fits self.old (back_events (K.functions self.old.host.now) self.old.nib o p) }
+        ensures { Drew S.meaning S.took K.asked self.old self.new (back_events (K.functions self.old.host.now) self.old.nib o p) (is_ok result) }
+    {
+        if same_command(o, p) {
+            self.split_join(o, p)
+        } else {
+            self.join(o, p)
+        }
+    }
+
+    // A join and the side after it, on the way back: two lines, which a parameter for the join would
+    // lengthen.
+    pub(crate) fn go_back(&mut self, o: OffsetSegment, p: OffsetSegment) -> Result<(), Refused>
+        requires { Fits self.old (one_back (K.functions self.old.host.now) self.old.nib o p) }
+        ensures { Drew S.meaning S.took K.asked self.old self.new (one_back (K.functions self.old.host.now) self.old.nib o p) (is_ok result) }
+    {
+        self.join_back(o, p)?;
+        self.emit(p.segment)
+    }
 }

@@ -21,13 +21,12 @@ fn circle(radius: f32, size: ArcSize, sweep: ArcSweep, to: Point) -> ArcTo {
 // How many curves the arc has, and where the last of them ends.
 fn drawn(arc: ArcTo) -> (usize, Point) {
     let few = arc_curves(arc, true, &mut SeriesHost::new());
-    let mut end = arc.from;
-    for c in few.as_slice() {
-        if let Command::CurveTo(_, _, p) = *c {
-            end = p;
-        }
-    }
-    (few.as_slice().len(), end)
+    let curves = few.as_slice();
+    let end = match curves.last() {
+        Some(Command::CurveTo(_, _, end)) => *end,
+        _ => arc.from,
+    };
+    (curves.len(), end)
 }
 
 fn near(p: Point, q: Point, bound: f32) -> bool {

@@ -9,7 +9,7 @@ fn refused(bytes: &[u8]) -> Option<(u8, usize)> {
     let mut job = Job::new(&mut commands, &mut dashes);
     match JobReader::new(bytes).read(&mut job) {
         Ok(()) => None,
-        Err(r) => Some((r.reason.number(), r.place)),
+        Err(r) => Some((u8::from(r.reason), r.place)),
     }
 }
 

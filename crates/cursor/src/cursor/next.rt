@@ -1,4 +1,5 @@
-ghost use Rattle.std.specs.Prelude.{◌≡◌, List};
+ghost use Rattle.std.specs.Prelude.{◌≡◌, List, is_some};
+ghost use Rattle.std.specs.Option.{option_flatten};
 ghost use Rattle.maths.specs.Functions.{Functions};
 ghost use Rattle.path.specs.declared.command.Command.{Command};
 ghost use Rattle.cursor.specs.Cursors.{seen, rest, fresh};
@@ -7,14 +8,11 @@ ghost use Rattle.cursor.specs.Laws.{GivesHead, LawfulDrawing};
 ghost use Rattle.cursor.specs.Machines.{done, step, waits};
 
 use crate::cursor::Segments;
-use crate::subpath::Subpath;
+use crate::cursor::machine::Machine;
 use curves::curve::Curve;
 use lent::element;
-use maths::host::{MathsHost, MathsMeaning};
+use maths::host::MathsHost;
 use path::command::Command;
-use path::geometry::Point;
-use pieces::pieces::Pieces;
-use segments::mark::SegmentId;
 use segments::segment::Segment;
 
 impl Segments {
@@ -25,89 +23,68 @@ impl Segments {
         ensures place { result.place ≡ 0 }
         ensures lawful { (F : Functions) (cs : List Command) → LawfulDrawing F split cs }
     {
-        Self::start(split)
-    }
-
-    fn start(split: bool) -> Segments
-        ensures machine { seen result ≡ fresh split }
-        ensures place { result.place ≡ 0 }
-    {
         Segments {
-            subpath: Subpath::begin(Point::new(0.0, 0.0)),
-            close: false,
-            split,
-            pieces: Pieces::none(),
-            piece: 0,
-            id: SegmentId::first(),
+            machine: Machine::new(split),
             place: 0,
         }
     }
 
-    // Whether anything is to come: an end, a piece, or a command.
-    fn waits(&self, commands: &[Command]) -> bool
-        ensures { result ≡ waits (seen self.now) (rest self.now commands.now) }
+    // One step: the end to come, the next piece or the next command, whichever is first. None where
+    // nothing is to come.
+    fn step<K: MathsHost>(&mut self, commands: &[Command], host: &mut K) -> Option<Option<Segment>>
+        ensures waits { is_some result ≡ waits (seen self.old) (rest self.old commands.now) }
+        ensures whole { record { gave = option_flatten result; after = seen self.new; place = self.new.place; host = host.new } ≡ done K.asked self.old.place host.old (step (K.functions host.old) (seen self.old) (rest self.old commands.now)) }
     {
-        self.close | (self.pieces.get(self.piece).is_some() | (self.place < commands.len()))
-    }
-
-    // One step: the end to come, the next piece or the next command, whichever is first.
-    fn step<K: MathsHost>(&mut self, commands: &[Command], host: &mut K) -> Option<Segment>
-        ensures { record { gave = result; after = seen self.new; place = self.new.place; host = host.new } ≡ done K.MathsMeaning.asked self.old.place host.old (step (K.MathsMeaning.functions host.old) (seen self.old) (rest self.old commands.now)) }
-    {
-        let from = self.subpath.prev;
+        let from = self.machine.subpath.prev;
         match (
-            self.close,
-            self.pieces.get(self.piece),
+            self.machine.close,
+            element(self.machine.pieces.as_slice(), self.machine.piece),
             element(commands, self.place),
         ) {
-            (true, _, _) => self.end(),
+            (true, _, _) => Some(self.machine.end()),
             (false, Some(curve), _) => {
-                self.piece += 1;
-                self.later_piece(curve)
+                self.machine.piece += 1;
+                Some(self.machine.later_piece(curve))
             }
             (false, None, Some(Command::MoveTo(to))) => {
                 self.place += 1;
-                self.move_to(to)
+                Some(self.machine.move_to(to))
             }
             (false, None, Some(Command::LineTo(to))) => {
                 self.place += 1;
-                self.line_to(to)
+                Some(self.machine.line_to(to))
             }
             (false, None, Some(Command::CurveTo(b, c, to))) => {
                 self.place += 1;
-                self.curve_to(Curve::new(from, b, c, to), to, host)
+                Some(self.machine.curve_to(Curve::new(from, b, c, to), to, host))
             }
             (false, None, Some(Command::QuadTo(b, to))) => {
                 self.place += 1;
-                self.curve_to(Curve::from_quadratic(from, b, to), to, host)
+                Some(
+                    self.machine
+                        .curve_to(Curve::from_quadratic(from, b, to), to, host),
+                )
             }
             (false, None, Some(Command::Close)) => {
                 self.place += 1;
-                self.close()
+                Some(self.machine.close())
             }
             (false, None, None) => None,
         }
     }
 
-    // Steps until one gives something.
-    fn advance<K: MathsHost>(&mut self, commands: &[Command], host: &mut K) -> Option<Segment>
-        ensures { record { gave = result; after = seen self.new; place = self.new.place; host = host.new } ≡ done K.MathsMeaning.asked self.old.place host.old (next_of (K.MathsMeaning.functions host.old) (seen self.old) (rest self.old commands.now)) }
+    /// The next line, curve or end, or none after the last command. The commands are those of the
+    /// earlier calls; the host is asked where a curve is cut.
+    pub fn next<K: MathsHost>(&mut self, commands: &[Command], host: &mut K) -> Option<Segment>
+        ensures whole { record { gave = result; after = seen self.new; place = self.new.place; host = host.new } ≡ done K.asked self.old.place host.old (next_of (K.functions host.old) (seen self.old) (rest self.old commands.now)) }
+        ensures head { GivesHead (K.functions host.old) (seen self.old) (rest self.old commands.now) result (seen self.new) (rest self.new commands.now) }
     {
-        while self.waits(commands) {
-            let given = self.step(commands, host);
+        // a step may give nothing while something is still to come
+        while let Some(given) = self.step(commands, host) {
             if given.is_some() {
                 return given;
             }
         }
         None
-    }
-
-    /// The next line, curve or end, or none after the last command. The commands are those of the
-    /// earlier calls; the host is asked where a curve is cut.
-    pub fn next<K: MathsHost>(&mut self, commands: &[Command], host: &mut K) -> Option<Segment>
-        ensures whole { record { gave = result; after = seen self.new; place = self.new.place; host = host.new } ≡ done K.MathsMeaning.asked self.old.place host.old (next_of (K.MathsMeaning.functions host.old) (seen self.old) (rest self.old commands.now)) }
-        ensures head { GivesHead (K.MathsMeaning.functions host.old) (seen self.old) (rest self.old commands.now) result (seen self.new) (rest self.new commands.now) }
-    {
-        self.advance(commands, host)
     }
 }

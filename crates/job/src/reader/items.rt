@@ -1,4 +1,4 @@
-ghost use Rattle.std.specs.Prelude.{◌≡◌, length};
+ghost use Rattle.std.specs.Prelude.{◌≡◌, length, MatchResult};
 ghost use Rattle.codec.specs.Reading.{first, Within};
 ghost use Rattle.job.specs.Readers.{left, refusal, next_answer, next_reader};
 ghost use Rattle.job.specs.Laws.{FindsSpelled, ReadsSpelled};
@@ -15,39 +15,37 @@ impl JobReader<'_> {
         ensures after { self.new ≡ next_reader self.old }
         ensures spelled { ReadsSpelled self.old result self.new }
     {
-        match self.item() {
-            Ok(None) => Ok(None),
-            Ok(Some((item, size))) => {
-                self.place += size;
-                Ok(Some(item))
-            }
-            Err(reason) => Err(self.refusal(reason)),
-        }
+        let Some((item, size)) = self.item()? else {
+            return Ok(None);
+        };
+        self.place += size;
+        Ok(Some(item))
     }
 
     // The item at the place and the number of its bytes, none at the end. The reader stays.
-    pub(super) fn item(&self) -> Result<Option<(Item, usize)>, Reason>
-        ensures value { result ≡ first (left self.now) }
-        ensures spelled { FindsSpelled self.now result }
-        ensures within { Within self.now.place (length self.now.bytes.now) result }
+    pub(super) fn item(&self) -> Result<Option<(Item, usize)>, Refusal>
+        ensures value { MatchResult result (λ found. first (left self.now) ≡ Ok found) (λ r. (first (left self.now) ≡ Err r.reason) × (r ≡ refusal self.now r.reason)) }
+        ensures spelled { FindsSpelled self.now (first (left self.now)) }
+        ensures within { Within self.now.place (length self.now.bytes.now) (first (left self.now)) }
     {
-        if self.place >= self.bytes.len() {
+        let Some(letter) = self.bytes.get(self.place) else {
             return Ok(None);
-        }
-        match read_item(self.bytes[self.place], &self.bytes[self.place + 1..]) {
-            Ok(found) => Ok(Some(found)),
-            Err(reason) => Err(reason),
-        }
+        };
+        self.placed(read_item(*letter, &self.bytes[self.place + 1..]).map(Some))
     }
 
-    // The refusal of the letter at the place.
-    pub(super) fn refusal(&self, reason: Reason) -> Refusal
-        ensures { result ≡ refusal self.now reason }
+    // An answer whose reason becomes the refusal of the letter at the place.
+    pub(super) fn placed<T>(&self, answer: Result<T, Reason>) -> Result<T, Refusal>
+        ensures { MatchResult result (λ x. answer ≡ Ok x) (λ r. (answer ≡ Err r.reason) × (r ≡ refusal self.now r.reason)) }
     {
-        Refusal {
-            reason,
-            place: self.place,
-            sent: 0,
+        // A `match`: a closure for `map_err` would need clauses of its own.
+        match answer {
+            Ok(x) => Ok(x),
+            Err(reason) => Err(Refusal {
+                reason,
+                place: self.place,
+                sent: 0,
+            }),
         }
     }
 }

@@ -2,6 +2,7 @@ ghost use Rattle.std.specs.Prelude.{◌≡◌};
 ghost use Rattle.maths.specs.Arcs.{near_arc, end_arc, wide_arc, kept};
 
 use crate::host::{HALF_TURN, in_range, not_a_number};
+use crate::series::polynomials::polynomial;
 
 /// The arc cosine; NaN past -1 and 1, where a root of a negative number is taken.
 pub(crate) fn arc_cosine(x: f64) -> f64
@@ -23,18 +24,27 @@ fn end_arc(gap: f64) -> f64
     2.0 * near_arc((gap * 0.5).sqrt())
 }
 
+const ARC: [f64; 9] = [
+    1.0000000000008284,
+    0.16666666613082337,
+    0.07500005674339076,
+    0.044640558118577034,
+    0.030428232514128867,
+    0.021854687048307064,
+    0.020686728801278316,
+    0.0019013011917725624,
+    0.032972918847588364,
+];
+
 // The arc sine of at most a half.
 fn near_arc(x: f64) -> f64
     ensures { result ≡ near_arc x }
 {
-    let z = x * x;
-    let y = 0.0019013011917725624 + z * 0.032972918847588364;
-    let y = 0.021854687048307064 + z * (0.020686728801278316 + z * y);
-    let y = 0.044640558118577034 + z * (0.030428232514128867 + z * y);
-    x * (1.0000000000008284 + z * (0.16666666613082337 + z * (0.07500005674339076 + z * y)))
+    x * polynomial(&ARC, x * x)
 }
 
-/// An angle within its range, or the end of the range that it passes; NaN stays NaN.
+/// An angle within its range, or the end of the range that it passes; NaN stays NaN. Its first test is
+/// that of a host's law, which `clamp` would not share.
 pub(crate) fn kept(y: f32) -> f32
     ensures { result ≡ kept y }
 {

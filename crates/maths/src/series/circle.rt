@@ -4,6 +4,8 @@ ghost use Rattle.std.specs.Float.Ieee.{rem};
 ghost use Rattle.maths.specs.Wide.{◌⊗◌, wide};
 ghost use Rattle.maths.specs.Circle.{quarters, quadrant, near_sine, near_cosine, along, wide_sine, wide_cosine, wide_tangent};
 
+use crate::series::polynomials::alternating;
+
 /// An angle in quarter turns, but for whole turns: a whole number and at most half a quarter.
 #[derive(Clone, Copy)]
 pub(crate) struct Quarters {
@@ -17,6 +19,7 @@ impl Quarters {
     pub(crate) fn new(x: f64) -> Quarters
         ensures { result ≡ quarters x }
     {
+        // eight names, since the parts are added up twice, and the second time from the middle
         let a = piece(x, 0.6366197466850281);
         let b = piece(x, 2.5682552973194106e-08);
         let c = piece(x, 2.937095214933759e-16);
@@ -31,6 +34,7 @@ impl Quarters {
         Quarters { whole, rest }
     }
 
+    // The sine and the cosine are a quarter apart, which as a parameter would be added to each angle.
     pub(crate) fn sine(self) -> f64
         ensures { result ≡ wide_sine self }
     {
@@ -59,6 +63,7 @@ fn piece(x: f64, part: f64) -> f64
 
 // `t % 4.0`, which has the sign of `t`, by steps that are exact: a compiler may call C for `%`, by a
 // version of the function that not every C library has.
+#[tactic(auto, using(crate::proofs::Remainders::rest_of_small, crate::proofs::Remainders::rest_of_negative, crate::proofs::Remainders::rest_of_positive))]
 fn rest_of_four(t: f64) -> f64
     ensures { result ≡ rem binary64 t (wide 0x4010_0000_0000_0000) }
 {
@@ -71,7 +76,7 @@ fn rest_of_four(t: f64) -> f64
     }
 }
 
-// Whole quarters without whole turns: 0, 1, 2 or 3.
+// Whole quarters without whole turns: 0, 1, 2 or 3, as a float, so that no NaN needs a case.
 fn quadrant(whole: f64) -> f64
     ensures { result ≡ quadrant whole }
 {
@@ -93,23 +98,37 @@ fn along(quadrant: f64, rest: f64) -> f64
     }
 }
 
+const SINE: [f64; 7] = [
+    1.5707963267948966,
+    0.6459640975062443,
+    0.07969262624604276,
+    0.004681754132336218,
+    0.00016044115070141775,
+    3.59864319355575e-06,
+    5.633910598053464e-08,
+];
+
 // The sine of at most half a quarter turn.
 fn near_sine(r: f64) -> f64
     ensures { result ≡ near_sine r }
 {
-    let z = r * r;
-    let y = 3.59864319355575e-06 - z * 5.633910598053464e-08;
-    let y = 0.004681754132336218 - z * (0.00016044115070141775 - z * y);
-    r * (1.5707963267948966 - z * (0.6459640975062443 - z * (0.07969262624604276 - z * y)))
+    r * alternating(&SINE, r * r)
 }
+
+const COSINE: [f64; 8] = [
+    1.0,
+    1.2337005501361697,
+    0.2536695079010467,
+    0.020863480763311126,
+    0.000919260274182107,
+    2.520203676375042e-05,
+    4.710609515348118e-07,
+    6.321230856185146e-09,
+];
 
 // The cosine of at most half a quarter turn.
 fn near_cosine(r: f64) -> f64
     ensures { result ≡ near_cosine r }
 {
-    let z = r * r;
-    let y = 4.710609515348118e-07 - z * 6.321230856185146e-09;
-    let y = 0.000919260274182107 - z * (2.520203676375042e-05 - z * y);
-    let y = 0.2536695079010467 - z * (0.020863480763311126 - z * y);
-    1.0 - z * (1.2337005501361697 - z * y)
+    alternating(&COSINE, r * r)
 }

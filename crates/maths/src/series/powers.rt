@@ -1,6 +1,7 @@
 ghost use Rattle.std.specs.Prelude.{◌≡◌};
 ghost use Rattle.maths.specs.Powers.{exponent, significand, log_series, near_log, joined_log, log2, near_exp, whole_exp, exp2, wide_power};
 
+use crate::series::polynomials::polynomial;
 use std::num::{
     f64_from_bits_with_nan, f64_to_bits_with_nan, nearest_u64_to_f64, saturating_f64_to_u64,
 };
@@ -61,14 +62,21 @@ fn near_log(m: f64) -> f64
     log_series((m - 1.0) / (m + 1.0))
 }
 
+const LOG: [f64; 8] = [
+    2.8853900817779268,
+    0.9617966939259899,
+    0.5770780163454586,
+    0.41219858585486296,
+    0.3205985334227465,
+    0.2623344335728468,
+    0.2209109142370262,
+    0.21368163909696675,
+];
+
 fn log_series(t: f64) -> f64
     ensures { result ≡ log_series t }
 {
-    let z = t * t;
-    let y = 0.2209109142370262 + z * 0.21368163909696675;
-    let y = 0.3205985334227465 + z * (0.2623344335728468 + z * y);
-    let y = 0.5770780163454586 + z * (0.41219858585486296 + z * y);
-    t * (2.8853900817779268 + z * (0.9617966939259899 + z * y))
+    t * polynomial(&LOG, t * t)
 }
 
 // 2 to a number within the exponents of `f64`.
@@ -79,16 +87,26 @@ fn exp2(y: f64) -> f64
     near_exp(y - n) * whole_exp(n)
 }
 
+const EXP: [f64; 12] = [
+    1.0,
+    0.6931471805599453,
+    0.2402265069591016,
+    0.055504108664821625,
+    0.00961812910758719,
+    0.0013333558146406436,
+    0.00015403530463808858,
+    1.5252733841601815e-05,
+    1.3215432492460394e-06,
+    1.0178057064573359e-07,
+    7.074202020682214e-09,
+    4.455822025014915e-10,
+];
+
 // 2 to at most a half.
 fn near_exp(f: f64) -> f64
     ensures { result ≡ near_exp f }
 {
-    let y = 7.074202020682214e-09 + f * 4.455822025014915e-10;
-    let y = 1.3215432492460394e-06 + f * (1.0178057064573359e-07 + f * y);
-    let y = 0.00015403530463808858 + f * (1.5252733841601815e-05 + f * y);
-    let y = 0.00961812910758719 + f * (0.0013333558146406436 + f * y);
-    let y = 0.2402265069591016 + f * (0.055504108664821625 + f * y);
-    1.0 + f * (0.6931471805599453 + f * y)
+    polynomial(&EXP, f)
 }
 
 // 2 to a whole number within the exponents of `f64`.

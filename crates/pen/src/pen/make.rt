@@ -31,6 +31,8 @@ impl Pen {
     }
 }
 
+// By a comparison: `max` leaves open which of two equal numbers it answers, which a proof would have
+// to rule out.
 #[tactic(auto, using(crate::proofs::Widths::least_is_number))]
 fn width_drawn(width: f32) -> f32
     ensures value { result ≡ width_drawn width }
@@ -43,6 +45,7 @@ fn width_drawn(width: f32) -> f32
     }
 }
 
+#[tactic(auto, using(crate::proofs::Halves::half_least))]
 fn radius(width: f32) -> f32
     ensures value { result ≡ radius_of width }
     ensures least { T (le least_radius result) }

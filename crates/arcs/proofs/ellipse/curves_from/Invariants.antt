@@ -1,17 +1,18 @@
-use Rattle.std.proofs.Common.{◌≡◌, ◌-◌, ◌≤◌, ◌++◌, length}
+use Rattle.std.proofs.Common.{◌≡◌, ◌-◌, ◌++◌, length}
 use Rattle.maths.specs.Questions.{all_asked}
 use Rattle.arcs.specs.Curves.{all_curves, all_questions}
-use Rattle.arcs.specs.Lists.{commands}
 use Rattle.arcs.proofs.ellipse.curves_from.Given as goal
 
 -- the curves so far with those that are left are all of them, and so with the questions
 abbrev pub invariant-loop-i : goal.invariant-loop-i
 invariant-loop-i g l =
-    let functions = g.K.MathsMeaning.functions in
-    let asked = g.K.MathsMeaning.asked in
+    let functions = g.K.MathsHost.functions in
+    let asked = g.K.MathsHost.asked in
     let F = functions l.initial.host in
     let n = l.sweep.count in
-    (functions l.host ≡ F)
-    × (commands l.few ++ all_curves (n - l.i) F l.ellipse l.angle l.sweep.each ≡ all_curves n F l.ellipse l.sweep.start l.sweep.each)
-    × (all_asked asked l.host (all_questions (n - l.i) l.angle l.sweep.each) ≡ all_asked asked l.initial.host (all_questions n l.sweep.start l.sweep.each))
-    × (length (commands l.few) ≤ l.i)
+    record {
+      same : functions l.host ≡ F;
+      drawn : l.curves.items ++ all_curves (n - l.i) F l.ellipse l.angle l.sweep.each ≡ all_curves n F l.ellipse l.sweep.start l.sweep.each;
+      answered : all_asked asked l.host (all_questions (n - l.i) l.angle l.sweep.each) ≡ all_asked asked l.initial.host (all_questions n l.sweep.start l.sweep.each);
+      room : length l.curves.spare ≡ 4 - l.i;
+    }

@@ -1,11 +1,12 @@
-use Rattle.std.proofs.Common.{◌≡◌, ◌≤◌, ◌++◌, length, take, drop}
+use Rattle.std.proofs.Common.{◌≡◌, ◌+◌, ◌≤◌, ◌++◌, length, drop}
 use Rattle.numbers.specs.Arithmetic.{zero}
-use Rattle.pieces.specs.Lists.{curves}
-use Rattle.pieces.specs.Cuts.{all_inside, cuts, slices}
+use Rattle.pieces.specs.Cuts.{all_inside, slices}
 use Rattle.pieces.proofs.cuts.cut_at.Given as goal
 
 -- the slices so far, with those at the cuts that are left, are the slices at all cuts
-abbrev pub invariant-loop-i : goal.invariant-loop-i
-invariant-loop-i l =
-    (curves l.pieces ++ slices l.curve l.last (all_inside (drop l.i (take l.roots.count l.roots.ts))) ≡ slices l.curve zero (cuts l.roots))
-    × (length (curves l.pieces) ≤ l.i)
+abbrev pub invariant-loop-t : goal.invariant-loop-t
+invariant-loop-t l = record {
+  slices : l.pieces.items ++ slices l.curve l.last (all_inside (drop l.t-index l.t-items)) ≡ slices l.curve zero (all_inside l.t-items);
+  few : length l.pieces.items ≤ l.t-index;
+  room : 4 ≤ length l.pieces.items + length l.pieces.spare;
+}

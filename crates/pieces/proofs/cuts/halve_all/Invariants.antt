@@ -1,7 +1,6 @@
-use Rattle.std.proofs.Common.{◌≡◌, take}
-use Rattle.pieces.specs.Lists.{curves}
+use Rattle.std.proofs.Common.{◌≡◌, ◌+◌, ◌*◌, ◌≤◌, length, take}
 use Rattle.pieces.specs.Cuts.{all_halved}
 use Rattle.pieces.proofs.cuts.halve_all.Given as goal
 
-abbrev pub invariant-loop-i : goal.invariant-loop-i
-invariant-loop-i l = curves l.pieces ≡ all_halved (take l.i (curves l.splits))
+abbrev pub invariant-loop-curve : goal.invariant-loop-curve
+invariant-loop-curve l = (l.pieces.items ≡ all_halved (take l.curve-index l.curve-items)) × (16 ≤ length l.pieces.spare + 4 * l.curve-index)

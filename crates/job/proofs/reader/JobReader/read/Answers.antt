@@ -1,15 +1,9 @@
-use Rattle.std.proofs.Common.{Ok, Err, refl, ap, ◌∙◌, arith}
+use Rattle.std.proofs.Common.{Ok, Err, ap, ◌∙◌}
 use Rattle.std.proofs.lemmas.Result.{err_from_is_err_and}
 use Rattle.job.specs.Whole.{Outcome}
 use Rattle.job.proofs.Stores.{stores_spelled}
-use Rattle.job.proofs.Turns.{fewer, goes_on, ends, refused}
+use Rattle.job.proofs.Turns.{goes_on, ends, refused}
 use Rattle.job.proofs.reader.JobReader.read.Goals as goal
-
-pub loop-init : goal.loop-init
-loop-init c = (_, omega arith, refl)
-
-pub loop-smaller : goal.loop-smaller
-loop-smaller c = fewer c.loop.self c.loop.job (simp c.if-branch.true at c.in_ok-step.ensures)
 
 pub loop-preserved : goal.loop-preserved
 loop-preserved c = goes_on c.loop.self c.loop.job c.loop.invariant (simp c.if-branch.true at c.in_ok-step.ensures)
