@@ -90,7 +90,8 @@ trait FromBytes<'a>: Sized {
 }
 
 impl<'a> Record<'a> {
-    // The record that begins with the letter, and the bytes after it.
+    // The record that begins with the letter, and the bytes after it: what a `FromBytes` says, of bytes
+    // and a letter.
     fn lettered(letter: u8, bytes: &'a [u8]) -> Option<(Record<'a>, &'a [u8])>
         ensures { IfSome result (λ p. length p.1.now ≤ length bytes.now) }
     {
@@ -183,7 +184,7 @@ impl<'a> FromBytes<'a> for ArcTo {
     }
 }
 
-// A flag that chooses between two values.
+// A flag that chooses between two values: what a `FromBytes` says, of bytes and the two.
 fn chosen<T: Copy>(bytes: &[u8], unset: T, set: T) -> Option<(T, &[u8])>
     ensures { IfSome result (λ p. length p.1.now ≤ length bytes.now) }
 {

@@ -65,7 +65,8 @@ impl Reduced {
         self.r * self.r - self.q * self.q * self.q < 0.0
     }
 
-    // The root at a third of an angle.
+    // The root at a third of an angle. As with the next, that the functions stay is said for the question
+    // that follows; the law says it of one question at a time.
     fn turned<K: MathsHost>(self, angle: f32, host: &mut K) -> f32
         ensures answer { result ≡ turned (K.functions host.old) self angle }
         ensures host { host.new ≡ K.asked host.old Cosine (angle ⊘ three) }

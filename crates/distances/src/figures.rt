@@ -99,6 +99,7 @@ pub fn replayed<K: MathsHost>(host: &mut K, f: Function, rows: &[Row]) -> Figure
     figures
 }
 
+// That the functions stay is said for the next row; the law says it of one question at a time.
 fn with_row<K: MathsHost>(host: &mut K, f: Function, row: Row, figures: Figures) -> Figures
     ensures value { result ≡ with_row (K.functions host.old) f row figures }
     ensures host { host.new ≡ row_asked K.asked f row host.old }
