@@ -7,6 +7,24 @@ use crate::style;
 /// Why a call was refused. Each reason has a fixed number.
 #[derive(Clone, Copy, Debug, PartialEq, Eq)]
 pub enum Reason {
+    /// There are more than 4,096 commands.
+    TooManyCommands = 1,
+    /// A coordinate does not lie from -1,048,576 to 1,048,576.
+    CoordinateOutOfRange = 2,
+    /// The width is above 4,096.
+    WidthTooLarge = 3,
+    /// There are more than 32 dashes.
+    TooManyDashes = 4,
+    /// The step budget is above 65,536.
+    BudgetTooLarge = 5,
+    /// The storage does not take another segment.
+    StorageFull = 6,
+    /// As many dash steps were taken as the budget allows.
+    StepsSpent = 7,
+    /// The sink does not take the command.
+    SinkRefused = 8,
+    /// A radius of the arc is 0.
+    ZeroRadius = 9,
     /// A job's letter is none of the format's.
     UnknownLetter = 10,
     /// The job ends before the letter's operands do.
