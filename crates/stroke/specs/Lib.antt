@@ -1,3 +1,4 @@
 pub mod Events
 pub mod Outlines
 pub mod Outliners
+pub mod Ranges

@@ -1,12 +1,17 @@
 -- The outline of a run, as events.
-use Rattle.std.specs.Prelude.{ℕ, cond, List, [], ◌∷◌, ◌++◌, map, reverse, take, drop, ◌==◌, Float}
+use Rattle.std.specs.Prelude.{ℕ, Bool, true, false, not, ◌&&◌, cond, List, [], ◌∷◌, ◌++◌, map, reverse, take, drop, ◌==◌, Float}
+use Rattle.std.specs.Float.Ieee.{neg, eq}
+use Rattle.numbers.specs.Arithmetic.{zero, one}
 use Rattle.maths.specs.Functions.{Functions}
+use Rattle.path.specs.declared.geometry.Vector.{Vector}
+use Rattle.path.specs.Vectors.{vector, sum, difference, multiple}
 use Rattle.path.specs.declared.command.Command.{Command}
 use Rattle.path.specs.declared.command.Command.TheVariants.{MoveTo, LineTo, CurveTo, Close}
 use Rattle.path.specs.declared.style.Cap.{Cap}
+use Rattle.path.specs.declared.style.Cap.TheVariants.{Butt, Square, Round}
 use Rattle.segments.specs.declared.segment.Segment.{Segment}
 use Rattle.segments.specs.declared.segment.Segment.TheVariants.{Line, Curve, End}
-use Rattle.segments.specs.Pieces.{segment_reverse}
+use Rattle.segments.specs.Pieces.{segment_length, segment_reverse}
 use Rattle.pen.specs.declared.nib.Nib.{Nib}
 use Rattle.pen.specs.declared.offset.OffsetSegment.{OffsetSegment}
 use Rattle.pen.specs.Offsets.{offset_of}
@@ -83,6 +88,77 @@ finish_events F nib o p = start_cap_events F nib o p ++ (sends Close ∷ [])
 -- to the start of an open run, and its first side
 abbrev pub begin_commands : OffsetSegment → List Command
 begin_commands o = MoveTo o.start ∷ emitted o.segment
+
+-- the sides of a run from its first segment on, and its other sides from the last one back
+abbrev pub sides : Nib → List Segment → List OffsetSegment
+sides nib xs = map (side nib) xs
+
+abbrev pub other_sides : Nib → List Segment → List OffsetSegment
+other_sides nib xs = map (other_side nib) (reverse xs)
+
+-- Open, with the sides o ∷ os there and p ∷ ps back: there, across the end, back, and across the start.
+abbrev pub open_ring : Functions → Nib → OffsetSegment → List OffsetSegment → OffsetSegment → List OffsetSegment → List Event
+open_ring F nib o os p ps = map sends (begin_commands o) ++ (forward F nib o os ++ (cross_events F nib (last_side o os) p ++ (backward F nib p ps ++ finish_events F nib (last_side p ps) o)))
+
+-- Closed: from the end of the last side all the way round, then over to the end of the last other side and all the way back.
+abbrev pub closed_ring : Functions → Nib → OffsetSegment → List OffsetSegment → OffsetSegment → List OffsetSegment → List Event
+closed_ring F nib o os p ps =
+    let end = last_side o os in
+    let back = last_side p ps in
+    sends (MoveTo end.end) ∷ (forward F nib end (o ∷ os) ++ (sends (LineTo back.end) ∷ (one_forward F nib back p ++ (backward F nib p ps ++ (sends Close ∷ [])))))
+
+-- A dash: as an open run, but pieces of one command get the split join on the way there too.
+abbrev pub dash_ring : Functions → Nib → OffsetSegment → List OffsetSegment → OffsetSegment → List OffsetSegment → List Event
+dash_ring F nib o os p ps = map sends (begin_commands o) ++ (backward F nib o os ++ (cross_events F nib (last_side o os) p ++ (backward F nib p ps ++ finish_events F nib (last_side p ps) o)))
+
+-- nothing where there are no sides
+abbrev pub around : (OffsetSegment → List OffsetSegment → OffsetSegment → List OffsetSegment → List Event) → List OffsetSegment → List OffsetSegment → List Event
+around ring [] ps = []
+around ring (o ∷ os) [] = []
+around ring (o ∷ os) (p ∷ ps) = ring o os p ps
+
+-- two caps around a point, which has the normal n: from p across to q, and from q across to p
+abbrev pub across : Vector → Vector → Vector → Turn
+across p q n = record { from = p; to = q; pivot = p; from_normal = n; to_normal = n }
+
+abbrev pub spot : Functions → Nib → Vector → Vector → Vector → List Event
+spot F nib p q n = sends (MoveTo p) ∷ (cap_events F nib.end_cap nib.radius (across p q n) ++ cap_events F nib.start_cap nib.radius (across q p (multiple n (neg one))))
+
+abbrev pub is_butt : Cap → Bool
+is_butt Butt = true
+is_butt Square = false
+is_butt Round = false
+
+-- one of the caps at least is not butt
+abbrev pub has_cap : Nib → Bool
+has_cap nib = not (is_butt nib.start_cap && is_butt nib.end_cap)
+
+-- A lone dot: a run of one segment of length 0, with a cap that is not butt. It has no close.
+abbrev pub is_lone_dot : Nib → List Segment → Bool
+is_lone_dot nib [] = false
+is_lone_dot nib (x ∷ []) = eq (segment_length x) zero && has_cap nib
+is_lone_dot nib (x ∷ y ∷ ys) = false
+
+-- where a segment begins
+abbrev pub first_point : Segment → Vector
+first_point (Line i l) = l.a
+first_point (Curve i k) = k.a
+first_point (End closed) = vector zero zero
+
+-- around the first point, on a vertical line
+abbrev pub lone_dot : Functions → Nib → List Segment → List Event
+lone_dot F nib [] = []
+lone_dot F nib (x ∷ xs) =
+    let up = vector zero one in
+    spot F nib (sum (first_point x) (multiple up nib.radius)) (difference (first_point x) (multiple up nib.radius)) up
+
+abbrev pub ring_of : Bool → Functions → Nib → OffsetSegment → List OffsetSegment → OffsetSegment → List OffsetSegment → List Event
+ring_of true F nib o os p ps = closed_ring F nib o os p ps
+ring_of false F nib o os p ps = open_ring F nib o os p ps
+
+-- the outline of a run: nothing where it has no segments
+abbrev pub outline : Functions → Nib → Bool → List Segment → List Event
+outline F nib closed xs = cond (is_lone_dot nib xs) (lone_dot F nib xs) (around (ring_of closed F nib) (sides nib xs) (other_sides nib xs))
 
 -- An open run from its first side o and its first other side p: the sides forward, across, the other sides of the first count segments backward, and across.
 abbrev pub open_outline : Functions → Nib → OffsetSegment → OffsetSegment → ℕ → List Segment → List Event
