@@ -6,4 +6,5 @@ mod outline;
 mod outliner;
 mod parts;
 mod passes;
+mod row;
 mod walks;
