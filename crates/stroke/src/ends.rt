@@ -4,6 +4,7 @@ ghost use Rattle.stroke.specs.Outliners.{Drew, Fits};
 ghost use Rattle.stroke.specs.Outlines.{begin_commands, cross_events, finish_events};
 
 use crate::outliner::Outliner;
+use crate::parts::turn_between;
 use maths::host::MathsHost;
 use path::command::Command;
 use pen::offset::OffsetSegment;
@@ -15,7 +16,7 @@ impl<'a, S: Sink, K: MathsHost> Outliner<'a, S, K> {
         requires { Fits self.old (cross_events (K.functions self.old.host.now) self.old.nib o p) }
         ensures { Drew S.meaning S.took K.asked self.old self.new (cross_events (K.functions self.old.host.now) self.old.nib o p) (is_ok result) }
     {
-        self.cap(self.nib.end_cap, o, p)?;
+        self.cap(self.nib.end_cap, turn_between(o, p))?;
         self.emit(p.segment)
     }
 
@@ -24,7 +25,7 @@ impl<'a, S: Sink, K: MathsHost> Outliner<'a, S, K> {
         requires { Fits self.old (finish_events (K.functions self.old.host.now) self.old.nib o p) }
         ensures { Drew S.meaning S.took K.asked self.old self.new (finish_events (K.functions self.old.host.now) self.old.nib o p) (is_ok result) }
     {
-        self.cap(self.nib.start_cap, o, p)?;
+        self.cap(self.nib.start_cap, turn_between(o, p))?;
         self.send(Command::Close)
     }
 

@@ -12,7 +12,7 @@ use pen::offset::OffsetSegment;
 use sinks::sink::{Refused, Sink};
 
 // From the end of one side to the start of the next.
-fn turn_between(o: OffsetSegment, p: OffsetSegment) -> Turn
+pub(crate) fn turn_between(o: OffsetSegment, p: OffsetSegment) -> Turn
     ensures { result ≡ turn_between o p }
 {
     Turn {
@@ -25,7 +25,7 @@ fn turn_between(o: OffsetSegment, p: OffsetSegment) -> Turn
 }
 
 // The three stay apart: a closure that makes the commands would have to carry the clauses of each.
-// They take two sides, so that the turn between them is worked out here alone.
+// The joins take two sides, so that the turn between them is worked out here alone.
 impl<'a, S: Sink, K: MathsHost> Outliner<'a, S, K> {
     pub(crate) fn join(&mut self, o: OffsetSegment, p: OffsetSegment) -> Result<(), Refused>
         requires { Fits self.old (join_events (K.functions self.old.host.now) self.old.nib (turn_between o p)) }
@@ -45,16 +45,10 @@ impl<'a, S: Sink, K: MathsHost> Outliner<'a, S, K> {
         self.send_all(commands.as_slice())
     }
 
-    pub(crate) fn cap(
-        &mut self,
-        shape: Cap,
-        o: OffsetSegment,
-        p: OffsetSegment,
-    ) -> Result<(), Refused>
-        requires { Fits self.old (cap_events (K.functions self.old.host.now) shape self.old.nib.radius (turn_between o p)) }
-        ensures { Drew S.meaning S.took K.asked self.old self.new (cap_events (K.functions self.old.host.now) shape self.old.nib.radius (turn_between o p)) (is_ok result) }
+    pub(crate) fn cap(&mut self, shape: Cap, turn: Turn) -> Result<(), Refused>
+        requires { Fits self.old (cap_events (K.functions self.old.host.now) shape self.old.nib.radius turn) }
+        ensures { Drew S.meaning S.took K.asked self.old self.new (cap_events (K.functions self.old.host.now) shape self.old.nib.radius turn) (is_ok result) }
     {
-        let turn = turn_between(o, p);
         let commands = cap_commands(shape, self.nib.radius, turn, self.host);
         self.send_all(commands.as_slice())
     }

@@ -3,12 +3,12 @@ ghost use Rattle.stroke.specs.Outliners.{Drew, Fits};
 ghost use Rattle.stroke.specs.Outlines.{forward, backward, side, other_side, last_side};
 
 use crate::outliner::Outliner;
+use crate::row::Row;
 use maths::host::MathsHost;
 use pen::nib::Nib;
 use pen::offset::OffsetSegment;
 use segments::segment::Segment;
 use sinks::sink::{Refused, Sink};
-use storage::storage::Storage;
 
 fn side(nib: Nib, segment: Segment) -> OffsetSegment
     ensures { result ≡ side nib segment }
@@ -23,21 +23,21 @@ fn other_side(nib: Nib, segment: Segment) -> OffsetSegment
 }
 
 impl<'a, S: Sink, K: MathsHost> Outliner<'a, S, K> {
-    // The sides from a place of the run on, each joined to the one before it; answers the last one. A
-    // storage answers by place, so the walks count places.
-    pub(crate) fn walk_forward<B: Storage>(
+    // The sides from a place of the row on, each joined to the one before it; answers the last one. A
+    // row answers by place, so the walks count places.
+    pub(crate) fn walk_forward<R: Row>(
         &mut self,
-        storage: &B,
+        row: &R,
         before: OffsetSegment,
         start: usize,
     ) -> Result<OffsetSegment, Refused>
-        requires { Fits self.old (forward (K.functions self.old.host.now) self.old.nib before (map (side self.old.nib) (drop start (B.held storage.now)))) }
-        ensures last { IfOk result (λ o. o ≡ last_side before (map (side self.old.nib) (drop start (B.held storage.now)))) }
-        ensures drew { Drew S.meaning S.took K.asked self.old self.new (forward (K.functions self.old.host.now) self.old.nib before (map (side self.old.nib) (drop start (B.held storage.now)))) (is_ok result) }
+        requires { Fits self.old (forward (K.functions self.old.host.now) self.old.nib before (map (side self.old.nib) (drop start (R.pieces row.now)))) }
+        ensures last { IfOk result (λ o. o ≡ last_side before (map (side self.old.nib) (drop start (R.pieces row.now)))) }
+        ensures drew { Drew S.meaning S.took K.asked self.old self.new (forward (K.functions self.old.host.now) self.old.nib before (map (side self.old.nib) (drop start (R.pieces row.now)))) (is_ok result) }
     {
         let mut last = before;
-        for i in start..storage.len() {
-            if let Some(segment) = storage.get(i) {
+        for i in start..row.len() {
+            if let Some(segment) = row.get(i) {
                 let next = side(self.nib, segment);
                 self.go_forward(last, next)?;
                 last = next;
@@ -46,23 +46,23 @@ impl<'a, S: Sink, K: MathsHost> Outliner<'a, S, K> {
         Ok(last)
     }
 
-    // The other sides of the first `count` segments of the run, from the last of them back to the
+    // The other sides of the first `count` segments of the row, from the last of them back to the
     // first, each joined to the one before it; answers the last one drawn. One walk for both ways would
     // take the order, the side and the join as parameters, and their clauses with them.
-    pub(crate) fn walk_backward<B: Storage>(
+    pub(crate) fn walk_backward<R: Row>(
         &mut self,
-        storage: &B,
+        row: &R,
         before: OffsetSegment,
         count: usize,
     ) -> Result<OffsetSegment, Refused>
-        requires room { Fits self.old (backward (K.functions self.old.host.now) self.old.nib before (map (other_side self.old.nib) (reverse (take count (B.held storage.now))))) }
-        requires within { count ≤ length (B.held storage.now) }
-        ensures last { IfOk result (λ o. o ≡ last_side before (map (other_side self.old.nib) (reverse (take count (B.held storage.now))))) }
-        ensures drew { Drew S.meaning S.took K.asked self.old self.new (backward (K.functions self.old.host.now) self.old.nib before (map (other_side self.old.nib) (reverse (take count (B.held storage.now))))) (is_ok result) }
+        requires room { Fits self.old (backward (K.functions self.old.host.now) self.old.nib before (map (other_side self.old.nib) (reverse (take count (R.pieces row.now))))) }
+        requires within { count ≤ length (R.pieces row.now) }
+        ensures last { IfOk result (λ o. o ≡ last_side before (map (other_side self.old.nib) (reverse (take count (R.pieces row.now))))) }
+        ensures drew { Drew S.meaning S.took K.asked self.old self.new (backward (K.functions self.old.host.now) self.old.nib before (map (other_side self.old.nib) (reverse (take count (R.pieces row.now))))) (is_ok result) }
     {
         let mut last = before;
         for i in (0..count).rev() {
-            if let Some(segment) = storage.get(i) {
+            if let Some(segment) = row.get(i) {
                 let next = other_side(self.nib, segment);
                 self.go_back(last, next)?;
                 last = next;

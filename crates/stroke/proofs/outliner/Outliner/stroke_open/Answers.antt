@@ -8,7 +8,7 @@ use Rattle.stroke.proofs.outliner.Outliner.stroke_open.Goals as goal
 
 pub returns-in_err-begin : goal.returns-in_err-begin
 returns-in_err-begin g c =
-    let xs = g.B.Storage.held c.args.storage.now in
+    let xs = g.R.Row.pieces c.args.row.now in
     let o = c.args.o in
     let p = c.args.p in
     let count = c.args.count in
@@ -17,7 +17,7 @@ returns-in_err-begin g c =
 
 pub walk_forward-requires : goal.walk_forward-requires
 walk_forward-requires g c =
-    let xs = g.B.Storage.held c.args.storage.now in
+    let xs = g.R.Row.pieces c.args.row.now in
     let o = c.args.o in
     let p = c.args.p in
     let count = c.args.count in
@@ -27,7 +27,7 @@ walk_forward-requires g c =
 
 pub returns-in_err-end : goal.returns-in_err-end
 returns-in_err-end g c =
-    let xs = g.B.Storage.held c.args.storage.now in
+    let xs = g.R.Row.pieces c.args.row.now in
     let o = c.args.o in
     let p = c.args.p in
     let count = c.args.count in
@@ -37,7 +37,7 @@ returns-in_err-end g c =
 
 pub cross_end-requires : goal.cross_end-requires
 cross_end-requires g c =
-    let xs = g.B.Storage.held c.args.storage.now in
+    let xs = g.R.Row.pieces c.args.row.now in
     let o = c.args.o in
     let p = c.args.p in
     let count = c.args.count in
@@ -49,7 +49,7 @@ cross_end-requires g c =
 
 pub returns-in_err-cross_end : goal.returns-in_err-cross_end
 returns-in_err-cross_end g c =
-    let xs = g.B.Storage.held c.args.storage.now in
+    let xs = g.R.Row.pieces c.args.row.now in
     let o = c.args.o in
     let p = c.args.p in
     let count = c.args.count in
@@ -61,7 +61,7 @@ returns-in_err-cross_end g c =
 
 pub walk_backward-requires : goal.walk_backward-requires
 walk_backward-requires g c =
-    let xs = g.B.Storage.held c.args.storage.now in
+    let xs = g.R.Row.pieces c.args.row.now in
     let o = c.args.o in
     let p = c.args.p in
     let count = c.args.count in
@@ -74,7 +74,7 @@ walk_backward-requires g c =
 
 pub returns-in_err-back : goal.returns-in_err-back
 returns-in_err-back g c =
-    let xs = g.B.Storage.held c.args.storage.now in
+    let xs = g.R.Row.pieces c.args.row.now in
     let o = c.args.o in
     let p = c.args.p in
     let count = c.args.count in
@@ -87,7 +87,7 @@ returns-in_err-back g c =
 
 pub finish_open-requires : goal.finish_open-requires
 finish_open-requires g c =
-    let xs = g.B.Storage.held c.args.storage.now in
+    let xs = g.R.Row.pieces c.args.row.now in
     let o = c.args.o in
     let p = c.args.p in
     let count = c.args.count in
@@ -102,7 +102,7 @@ finish_open-requires g c =
 
 pub returns : goal.returns
 returns g c =
-    let xs = g.B.Storage.held c.args.storage.now in
+    let xs = g.R.Row.pieces c.args.row.now in
     let o = c.args.o in
     let p = c.args.p in
     let count = c.args.count in

@@ -13,20 +13,20 @@ pub go_back-requires : goal.go_back-requires
 go_back-requires g c =
     let F = g.K.MathsHost.functions c.loop-i.self.host.now in
     let nib = c.loop-i.self.nib in
-    let held = g.B.Storage.held c.args.storage.now in
+    let row = g.R.Row.pieces c.args.row.now in
     let next = c.other_side-next.result in
-    let rest = map (other_side nib) (reverse (take (c.loop-i.i - 1) held)) in
-    let left = sides_back (other_side nib) held c.loop-i.i c.in-Some.segment c.loop-i-test.true c.get.ensures c.in-Some.is c.other_side-next.ensures in
+    let rest = map (other_side nib) (reverse (take (c.loop-i.i - 1) row)) in
+    let left = sides_back (other_side nib) row c.loop-i.i c.in-Some.segment c.loop-i-test.true c.get.ensures c.in-Some.is c.other_side-next.ensures in
     next_fits g.S.Sink.meaning g.S.Sink.took g.K.MathsHost.asked (one_back F nib c.loop-i.last next) (backward F nib next rest) (backward_next F nib c.loop-i.last next rest left) c.loop-i.invariant.1
 
 pub returns-in_err-go_back : goal.returns-in_err-go_back
 returns-in_err-go_back g c =
     let F = g.K.MathsHost.functions c.loop-i.self.host.now in
     let nib = c.loop-i.self.nib in
-    let held = g.B.Storage.held c.args.storage.now in
+    let row = g.R.Row.pieces c.args.row.now in
     let next = c.other_side-next.result in
-    let rest = map (other_side nib) (reverse (take (c.loop-i.i - 1) held)) in
-    let left = sides_back (other_side nib) held c.loop-i.i c.in-Some.segment c.loop-i-test.true c.get.ensures c.in-Some.is c.other_side-next.ensures in
+    let rest = map (other_side nib) (reverse (take (c.loop-i.i - 1) row)) in
+    let left = sides_back (other_side nib) row c.loop-i.i c.in-Some.segment c.loop-i-test.true c.get.ensures c.in-Some.is c.other_side-next.ensures in
     record {
       last = refused_made _ c.from_residual.result c.from_residual.ensures.0;
       drew = ends_refused g.S.Sink.meaning g.S.Sink.took g.K.MathsHost.asked c.from_residual.result (one_back F nib c.loop-i.last next) (backward F nib next rest) c.from_residual.ensures.0 (backward_next F nib c.loop-i.last next rest left) c.loop-i.invariant.1 c.in_err-go_back.ensures;
@@ -36,23 +36,23 @@ pub loop-i-preserved-in-Some : goal.loop-i-preserved-in-Some
 loop-i-preserved-in-Some g c =
     let F = g.K.MathsHost.functions c.loop-i.self.host.now in
     let nib = c.loop-i.self.nib in
-    let held = g.B.Storage.held c.args.storage.now in
+    let row = g.R.Row.pieces c.args.row.now in
     let next = c.other_side-next.result in
-    let rest = map (other_side nib) (reverse (take (c.loop-i.i - 1) held)) in
-    let left = sides_back (other_side nib) held c.loop-i.i c.in-Some.segment c.loop-i-test.true c.get.ensures c.in-Some.is c.other_side-next.ensures in
+    let rest = map (other_side nib) (reverse (take (c.loop-i.i - 1) row)) in
+    let left = sides_back (other_side nib) row c.loop-i.i c.in-Some.segment c.loop-i-test.true c.get.ensures c.in-Some.is c.other_side-next.ensures in
     let d = c.in_ok-go_back.ensures in
-    let last = ap (λ (n : Nib). last_side next (map (other_side n) (reverse (take (c.loop-i.i - 1) held)))) d.same.nib ∙ sym (ap (last_side c.loop-i.last) left) ∙ c.loop-i.invariant.0 in
-    let lead = passes_on g.S.Sink.meaning g.S.Sink.took g.K.MathsHost.asked g.K.MathsHost.functions g.met.K.MathsHost.same (one_back F nib c.loop-i.last next) (λ (G : Functions) (n : Nib). backward G n next (map (other_side n) (reverse (take (c.loop-i.i - 1) held)))) (backward_next F nib c.loop-i.last next rest left) c.loop-i.invariant.1 d in
+    let last = ap (λ (n : Nib). last_side next (map (other_side n) (reverse (take (c.loop-i.i - 1) row)))) d.same.nib ∙ sym (ap (last_side c.loop-i.last) left) ∙ c.loop-i.invariant.0 in
+    let lead = passes_on g.S.Sink.meaning g.S.Sink.took g.K.MathsHost.asked g.K.MathsHost.functions g.met.K.MathsHost.same (one_back F nib c.loop-i.last next) (λ (G : Functions) (n : Nib). backward G n next (map (other_side n) (reverse (take (c.loop-i.i - 1) row)))) (backward_next F nib c.loop-i.last next rest left) c.loop-i.invariant.1 d in
     (last, lead)
 
 pub loop-i-preserved : goal.loop-i-preserved
 loop-i-preserved g c =
-    absurd (omega (arith, found_none (g.B.Storage.held c.args.storage.now) (c.loop-i.i - 1) c.get.ensures c.in_default.is, c.loop-i.auto.i, c.requires.within, c.loop-i-test.true))
+    absurd (omega (arith, found_none (g.R.Row.pieces c.args.row.now) (c.loop-i.i - 1) c.get.ensures c.in_default.is, c.loop-i.auto.i, c.requires.within, c.loop-i-test.true))
 
 pub returns : goal.returns
 returns g c =
-    let held = g.B.Storage.held c.args.storage.now in
-    let none = none_back (other_side c.loop-i.self.nib) held c.loop-i.i (omega arith) in
+    let row = g.R.Row.pieces c.args.row.now in
+    let none = none_back (other_side c.loop-i.self.nib) row c.loop-i.i (omega arith) in
     record {
       last = sym (ap (last_side c.loop-i.last) none) ∙ c.loop-i.invariant.0;
       drew = ends_there g.S.Sink.meaning g.S.Sink.took g.K.MathsHost.asked (backward_none _ c.loop-i.self.nib c.loop-i.last none) c.loop-i.invariant.1;

@@ -7,8 +7,8 @@ use Rattle.stroke.proofs.outliner.Outliner.walk_backward.Given as goal
 abbrev pub invariant-loop-i : goal.invariant-loop-i
 invariant-loop-i g l =
     let functions = g.K.MathsHost.functions in
-    let held = g.B.Storage.held l.storage in
-    let all = map (other_side l.fn.self.nib) (reverse (take l.count held)) in
-    let left = map (other_side l.self.nib) (reverse (take l.i held)) in
+    let row = g.R.Row.pieces l.row in
+    let all = map (other_side l.fn.self.nib) (reverse (take l.count row)) in
+    let left = map (other_side l.self.nib) (reverse (take l.i row)) in
     (last_side l.last left ≡ last_side l.fn.before all)
     × Leads g.S.Sink.meaning g.S.Sink.took g.K.MathsHost.asked l.fn.self (backward (functions l.fn.self.host.now) l.fn.self.nib l.fn.before all) l.self (backward (functions l.self.host.now) l.self.nib l.last left)

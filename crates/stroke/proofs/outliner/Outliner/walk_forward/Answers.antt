@@ -14,20 +14,20 @@ pub go_forward-requires : goal.go_forward-requires
 go_forward-requires g c =
     let F = g.K.MathsHost.functions c.loop-i.self.host.now in
     let nib = c.loop-i.self.nib in
-    let held = g.B.Storage.held c.args.storage.now in
+    let row = g.R.Row.pieces c.args.row.now in
     let next = c.side-next.result in
-    let rest = map (side nib) (drop (c.loop-i.i + 1) held) in
-    let left = sides_left (side nib) held c.loop-i.i c.in-Some.segment c.get.ensures c.in-Some.is c.side-next.ensures in
+    let rest = map (side nib) (drop (c.loop-i.i + 1) row) in
+    let left = sides_left (side nib) row c.loop-i.i c.in-Some.segment c.get.ensures c.in-Some.is c.side-next.ensures in
     next_fits g.S.Sink.meaning g.S.Sink.took g.K.MathsHost.asked (one_forward F nib c.loop-i.last next) (forward F nib next rest) (forward_next F nib c.loop-i.last next rest left) c.loop-i.invariant.1
 
 pub returns-in_err-go_forward : goal.returns-in_err-go_forward
 returns-in_err-go_forward g c =
     let F = g.K.MathsHost.functions c.loop-i.self.host.now in
     let nib = c.loop-i.self.nib in
-    let held = g.B.Storage.held c.args.storage.now in
+    let row = g.R.Row.pieces c.args.row.now in
     let next = c.side-next.result in
-    let rest = map (side nib) (drop (c.loop-i.i + 1) held) in
-    let left = sides_left (side nib) held c.loop-i.i c.in-Some.segment c.get.ensures c.in-Some.is c.side-next.ensures in
+    let rest = map (side nib) (drop (c.loop-i.i + 1) row) in
+    let left = sides_left (side nib) row c.loop-i.i c.in-Some.segment c.get.ensures c.in-Some.is c.side-next.ensures in
     record {
       last = refused_made _ c.from_residual.result c.from_residual.ensures.0;
       drew = ends_refused g.S.Sink.meaning g.S.Sink.took g.K.MathsHost.asked c.from_residual.result (one_forward F nib c.loop-i.last next) (forward F nib next rest) c.from_residual.ensures.0 (forward_next F nib c.loop-i.last next rest left) c.loop-i.invariant.1 c.in_err-go_forward.ensures;
@@ -39,21 +39,21 @@ loop-i-preserved g c =
       | in-Some+in_ok-go_forward w ↦
           let F = g.K.MathsHost.functions c.loop-i.self.host.now in
           let nib = c.loop-i.self.nib in
-          let held = g.B.Storage.held c.args.storage.now in
+          let row = g.R.Row.pieces c.args.row.now in
           let next = w.side-next.result in
-          let rest = map (side nib) (drop (c.loop-i.i + 1) held) in
-          let left = sides_left (side nib) held c.loop-i.i w.in-Some.segment c.get.ensures w.in-Some.is w.side-next.ensures in
+          let rest = map (side nib) (drop (c.loop-i.i + 1) row) in
+          let left = sides_left (side nib) row c.loop-i.i w.in-Some.segment c.get.ensures w.in-Some.is w.side-next.ensures in
           let d = w.in_ok-go_forward.ensures in
-          let last = ap (λ (n : Nib). last_side next (map (side n) (drop (c.loop-i.i + 1) held))) d.same.nib ∙ sym (ap (last_side c.loop-i.last) left) ∙ c.loop-i.invariant.0 in
-          let lead = passes_on g.S.Sink.meaning g.S.Sink.took g.K.MathsHost.asked g.K.MathsHost.functions g.met.K.MathsHost.same (one_forward F nib c.loop-i.last next) (λ (G : Functions) (n : Nib). forward G n next (map (side n) (drop (c.loop-i.i + 1) held))) (forward_next F nib c.loop-i.last next rest left) c.loop-i.invariant.1 d in
+          let last = ap (λ (n : Nib). last_side next (map (side n) (drop (c.loop-i.i + 1) row))) d.same.nib ∙ sym (ap (last_side c.loop-i.last) left) ∙ c.loop-i.invariant.0 in
+          let lead = passes_on g.S.Sink.meaning g.S.Sink.took g.K.MathsHost.asked g.K.MathsHost.functions g.met.K.MathsHost.same (one_forward F nib c.loop-i.last next) (λ (G : Functions) (n : Nib). forward G n next (map (side n) (drop (c.loop-i.i + 1) row))) (forward_next F nib c.loop-i.last next rest left) c.loop-i.invariant.1 d in
           simp (w.self-is, w.last-is) (last, lead)
-      | in_default w ↦ absurd (omega (arith, found_none (g.B.Storage.held c.args.storage.now) c.loop-i.i c.get.ensures w.in_default.is, c.len-i-end.ensures, c.loop-i-test.true))
+      | in_default w ↦ absurd (omega (arith, found_none (g.R.Row.pieces c.args.row.now) c.loop-i.i c.get.ensures w.in_default.is, c.len-i-end.ensures, c.loop-i-test.true))
     ]
 
 pub returns : goal.returns
 returns g c =
-    let held = g.B.Storage.held c.args.storage.now in
-    let none = sides_none (side c.loop-i.self.nib) held c.loop-i.i (omega (arith, c.len-i-end.ensures)) in
+    let row = g.R.Row.pieces c.args.row.now in
+    let none = sides_none (side c.loop-i.self.nib) row c.loop-i.i (omega (arith, c.len-i-end.ensures)) in
     record {
       last = sym (ap (last_side c.loop-i.last) none) ∙ c.loop-i.invariant.0;
       drew = ends_there g.S.Sink.meaning g.S.Sink.took g.K.MathsHost.asked (forward_none _ c.loop-i.self.nib c.loop-i.last none) c.loop-i.invariant.1;

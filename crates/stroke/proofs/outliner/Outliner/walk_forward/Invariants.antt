@@ -7,8 +7,8 @@ use Rattle.stroke.proofs.outliner.Outliner.walk_forward.Given as goal
 abbrev pub invariant-loop-i : goal.invariant-loop-i
 invariant-loop-i g l =
     let functions = g.K.MathsHost.functions in
-    let held = g.B.Storage.held l.storage in
-    let all = map (side l.fn.self.nib) (drop l.start held) in
-    let left = map (side l.self.nib) (drop l.i held) in
+    let row = g.R.Row.pieces l.row in
+    let all = map (side l.fn.self.nib) (drop l.start row) in
+    let left = map (side l.self.nib) (drop l.i row) in
     (last_side l.last left ≡ last_side l.fn.before all)
     × Leads g.S.Sink.meaning g.S.Sink.took g.K.MathsHost.asked l.fn.self (forward (functions l.fn.self.host.now) l.fn.self.nib l.fn.before all) l.self (forward (functions l.self.host.now) l.self.nib l.last left)
