@@ -1,0 +1,6 @@
+pub mod Dashers
+pub mod Patterns
+pub mod PatternValues
+pub mod Spans
+pub mod StepCounts
+pub mod Walks
