@@ -1,4 +1,5 @@
+pub mod Contours
 pub mod Events
-pub mod Outlines
 pub mod Outliners
+pub mod Outlines
 pub mod Ranges
