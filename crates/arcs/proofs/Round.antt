@@ -9,10 +9,11 @@ use Rattle.maths.proofs.Asking.{asked_append}
 use Rattle.path.specs.declared.command.Command.{Command}
 use Rattle.arcs.specs.declared.arc_to.ArcTo.{ArcTo}
 use Rattle.arcs.specs.declared.centre.Centred.{Centred}
+use Rattle.arcs.specs.declared.centre.Turned.{Turned}
 use Rattle.arcs.specs.declared.ellipse.Ellipse.{Ellipse}
 use Rattle.curves.specs.Curves.{two, three}
 use Rattle.arcs.specs.Sweeps.{turn_of, curves_needed, sweep_of}
-use Rattle.arcs.specs.Curves.{curve_at, curve_questions, all_curves, all_questions}
+use Rattle.arcs.specs.Curves.{curve_at, curve_questions, all_curves, all_questions, ellipse, round_curves, OneToFour}
 
 one_less : (n i : ℕ) → i < n → n - i ≡ suc (n - (i + 1))
 one_less n i h = omega arith
@@ -61,3 +62,6 @@ counts_few false false false = (omega arith, omega arith)
 
 pub sweep_few : (F : Functions) (a : ArcTo) (c : Centred) → (1 ≤ (sweep_of F a c).count) × ((sweep_of F a c).count ≤ 4)
 sweep_few F a c = let x = curves_needed (turn_of F a c) in counts_few (le x one) (le x two) (le x three)
+
+pub round_few : (F : Functions) (a : ArcTo) (t : Turned) (c : Centred) → OneToFour false (round_curves F a t c)
+round_few F a t c = let s = sweep_of F a c in let long = curves_long s.count F (ellipse c t s) s.start s.each in rw long (sweep_few F a c)

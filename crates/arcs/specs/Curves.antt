@@ -1,6 +1,7 @@
 -- The curves of an arc.
-use Rattle.std.specs.Prelude.{◌≡◌, ℕ, zero, suc, ◌≤◌, Bool, true, false, cond, ◌&&◌, List, [], ◌∷◌, ◌++◌, length, Float}
-use Rattle.std.specs.Float.Ieee.{eq}
+use Rattle.std.specs.Prelude.{◌≡◌, ℕ, zero, suc, ◌≤◌, Bool, true, false, cond, ◌&&◌, T, pos, List, [], ◌∷◌, ◌++◌, length, Float}
+use Rattle.std.specs.Float.{binary32}
+use Rattle.std.specs.Float.Ieee.{le, eq, of_int}
 use Rattle.numbers.specs.Arithmetic.{◌⊕◌, ◌⊖◌, ◌⊗◌}
 use Rattle.numbers.specs.Arithmetic.{zero as zeroᶠ}
 use Rattle.maths.specs.Functions.{Functions}
@@ -16,7 +17,7 @@ use Rattle.arcs.specs.declared.centre.Centred.{Centred}
 use Rattle.arcs.specs.declared.sweep.Sweep.{Sweep}
 use Rattle.arcs.specs.declared.ellipse.Ellipse.{Ellipse}
 use Rattle.arcs.specs.Centres.{to_ellipse, turn, half_chord, centred}
-use Rattle.arcs.specs.Sweeps.{sweep_of, sweep_questions}
+use Rattle.arcs.specs.Sweeps.{four, curves_needed, sweep_of, sweep_questions}
 
 -- a point by its place on the circle of radius 1
 abbrev pub placed : Ellipse → Vector → Vector
@@ -80,3 +81,8 @@ arc_questions F scaled a = round_questions a.angle
 abbrev pub OneToFour : Bool → List Command → Type 0
 OneToFour true row = row ≡ []
 OneToFour false row = (1 ≤ length row) × (length row ≤ 4)
+
+-- nothing, or as many as the turn needs, which are at most four
+abbrev pub AsNeeded : Bool → Float → List Command → Type 0
+AsNeeded true t row = row ≡ []
+AsNeeded false t row = (of_int binary32 (pos (length row)) ≡ curves_needed t) × T (le (curves_needed t) four)

@@ -1,6 +1,6 @@
 -- The angles of an arc.
-use Rattle.std.specs.Prelude.{ℕ, cond, List, [], ◌∷◌, from_bits, Float}
-use Rattle.std.specs.Float.Ieee.{neg, lt, le, eq}
+use Rattle.std.specs.Prelude.{◌≡◌, ℕ, cond, T, pos, List, [], ◌∷◌, from_bits, Float}
+use Rattle.std.specs.Float.Ieee.{neg, lt, le, eq, of_int}
 use Rattle.std.specs.Float as Floats
 use Rattle.std.specs.Float.{float_max, binary32}
 use Rattle.numbers.specs.Arithmetic.{◌⊕◌, ◌⊖◌, ◌⊗◌, ◌⊘◌, zero, one}
@@ -71,6 +71,10 @@ curves_needed t = float_max (Floats.ceil binary32 (ratio_of t)) one
 
 abbrev pub count_of : Float → ℕ
 count_of x = cond (le x one) 1 (cond (le x two) 2 (cond (le x three) 3 4))
+
+-- the count is the number itself, and at most four
+abbrev pub Counted : Float → Type 0
+Counted x = (of_int binary32 (pos (count_of x)) ≡ x) × T (le x four)
 
 abbrev pub quarter_bulge : Float
 quarter_bulge = from_bits binary32 0x3F0D_4A4E

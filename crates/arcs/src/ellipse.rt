@@ -1,6 +1,7 @@
-ghost use Rattle.std.specs.Prelude.{◌≡◌, ◌≤◌, length};
+ghost use Rattle.std.specs.Prelude.{◌≡◌, false, ◌≤◌, length};
 ghost use Rattle.maths.specs.Questions.{all_asked};
-ghost use Rattle.arcs.specs.Curves.{placed, curve_between, round_at, round_questions, turned_of, curve_questions, curve_at, no_chord, all_curves, all_questions, ellipse, round_curves, round_all_questions, arc_curves, arc_questions, OneToFour};
+ghost use Rattle.arcs.specs.Curves.{placed, curve_between, round_at, round_questions, turned_of, curve_questions, curve_at, no_chord, all_curves, all_questions, ellipse, centred_of, round_curves, round_all_questions, arc_curves, arc_questions, OneToFour, AsNeeded};
+ghost use Rattle.arcs.specs.Sweeps.{turn_of};
 ghost use Rattle.arcs.specs.Centres.{half_chord};
 
 use crate::arc_to::ArcTo;
@@ -104,11 +105,12 @@ fn curves_from<K: MathsHost>(ellipse: Ellipse, sweep: Sweep, host: &mut K) -> Fe
     curves
 }
 
-#[tactic(auto, using(crate::proofs::Round::curves_long, crate::proofs::Round::sweep_few))]
+#[tactic(auto, using(crate::proofs::Round::sweep_few))]
 fn curves_round<K: MathsHost>(turned_arc: TurnedArc, centred: Centred, host: &mut K) -> Few
     ensures answer { result.items ≡ round_curves (K.functions host.old) turned_arc.arc turned_arc.turned centred }
     ensures host { host.new ≡ all_asked K.asked host.old (round_all_questions (K.functions host.old) turned_arc.arc centred) }
     ensures few { (1 ≤ length result.items) × (length result.items ≤ 4) }
+    ensures needed { AsNeeded false (turn_of (K.functions host.old) turned_arc.arc centred) result.items }
 {
     let sweep = find_sweep(turned_arc.arc, centred, host);
     curves_from(Ellipse::new(centred, turned_arc.turned, sweep), sweep, host)
@@ -122,6 +124,7 @@ pub fn arc_curves<K: MathsHost>(arc: ArcTo, scaled: bool, host: &mut K) -> Few
     ensures answer { result.items ≡ arc_curves (K.functions host.old) scaled arc }
     ensures host { host.new ≡ all_asked K.asked host.old (arc_questions (K.functions host.old) scaled arc) }
     ensures few { OneToFour (no_chord (half_chord arc (turned_of (K.functions host.old) arc.angle))) result.items }
+    ensures needed { AsNeeded (no_chord (half_chord arc (turned_of (K.functions host.old) arc.angle))) (turn_of (K.functions host.old) arc (centred_of (K.functions host.old) scaled arc)) result.items }
 {
     let turned_arc = TurnedArc {
         arc,

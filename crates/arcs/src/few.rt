@@ -1,4 +1,6 @@
-ghost use Rattle.std.specs.Prelude.{◌≡◌, take};
+ghost use Rattle.std.specs.Prelude.{◌≡◌};
+ghost use Rattle.fixed.specs.Places.{filled};
+ghost use Rattle.path.specs.declared.command.Command.TheVariants.{Close};
 
 use fixed::FixedList;
 use path::command::Command;
@@ -6,9 +8,9 @@ use path::command::Command;
 /// Up to four commands, in order.
 pub type Few = FixedList<Command, 4>;
 
-/// The first four of some commands.
+/// The first four of some commands, with a Close in every place after them.
 pub fn few(commands: &[Command]) -> Few
-    ensures { result.items ≡ take 4 commands.now }
+    ensures { result ≡ filled 4 Close commands.now }
 {
     FixedList::filled(Command::Close, commands)
 }

@@ -1,4 +1,8 @@
-ghost use Rattle.std.specs.Prelude.{◌≡◌, [], length};
+ghost use Rattle.std.specs.Prelude.{◌≡◌};
+ghost use Rattle.curves.specs.Curves.{curve};
+ghost use Rattle.fixed.specs.Places.{fresh};
+ghost use Rattle.numbers.specs.Arithmetic.{zero};
+ghost use Rattle.path.specs.Vectors.{vector};
 
 use curves::curve::Curve;
 use fixed::FixedList;
@@ -7,10 +11,9 @@ use path::geometry::Point;
 /// Up to 16 curves, in order.
 pub type Pieces = FixedList<Curve, 16>;
 
-/// No curves.
+/// No curves; each place holds one whose points are all the origin.
 pub fn none() -> Pieces
-    ensures empty { result.items ≡ [] }
-    ensures room { length result.spare ≡ 16 }
+    ensures { result ≡ fresh 16 (curve (vector zero zero) (vector zero zero) (vector zero zero) (vector zero zero)) }
 {
     let origin = Point::new(0.0, 0.0);
     FixedList::new(Curve::new(origin, origin, origin, origin))

@@ -1,9 +1,10 @@
-use Rattle.std.proofs.Common.{rules, ◌≡◌, false, [], ◌++◌, sym, ap, ◌∙◌}
+use Rattle.std.proofs.Common.{rules, ◌≡◌, false, [], ◌++◌, sym, ap, ◌∙◌, subst}
 use Rattle.std.proofs.lemmas.Bool.{cond-false}
 use Rattle.maths.specs.Questions.{all_asked}
 use Rattle.maths.proofs.Asking.{asked_append, asked_same}
 use Rattle.arcs.specs.Centres.{half_chord, centred}
-use Rattle.arcs.specs.Curves.{round_questions, no_chord, turned_of, centred_of, round_curves, round_all_questions, arc_curves, arc_questions}
+use Rattle.arcs.specs.Curves.{round_questions, no_chord, turned_of, centred_of, round_curves, round_all_questions, arc_curves, arc_questions, AsNeeded}
+use Rattle.arcs.specs.Sweeps.{turn_of}
 use Rattle.arcs.proofs.ellipse.arc_curves.Goals as goal
 
 pub returns : goal.returns
@@ -27,4 +28,7 @@ returns g c =
       host = c.curves_round.ensures.host ∙ (λ i. all_asked asked (after i) (round_all_questions (kept i) arc (centre i))) ∙ sym (asked_append asked host (round_questions arc.angle) rest)
           ∙ ap (λ qs. all_asked asked host (round_questions arc.angle ++ qs)) (sym (cond-false (no_chord chord) [] rest some));
       few = search rules;
+      needed = subst (λ b. AsNeeded b (turn_of F arc (centred_of F c.args.scaled arc)) c.curves_round.result.items) (sym some)
+          (subst (λ G. AsNeeded false (turn_of G arc (centred_of F c.args.scaled arc)) c.curves_round.result.items) kept
+          (subst (λ d. AsNeeded false (turn_of (functions c.turned.new.host) arc d) c.curves_round.result.items) centre c.curves_round.ensures.needed));
     }
