@@ -1,3 +1,4 @@
+mod Contours
 mod Drawn
 mod Playing
 mod Walking

@@ -1,0 +1,228 @@
+-- Every outline is a contour: lines and curves between a move and a close.
+use Rattle.std.proofs.Common.{◌≡◌, ℕ, zero, suc, Bool, true, false, ◌==◌, List, [], ◌∷◌, ◌++◌, map, sym, refl, ap, ◌∙◌, subst}
+use lib.Ieee.{Float, neg}
+use Rattle.std.proofs.lemmas.Bool.{cond_both}
+use Rattle.numbers.specs.Arithmetic.{◌⊕◌, ◌⊗◌, one}
+use Rattle.curves.specs.Curves.{two}
+use Rattle.maths.specs.Functions.{Functions}
+use Rattle.maths.specs.Questions.{Question}
+use Rattle.path.specs.declared.geometry.Vector.{Vector}
+use Rattle.path.specs.declared.command.Command.{Command}
+use Rattle.path.specs.declared.command.Command.TheVariants.{MoveTo, LineTo, CurveTo, QuadTo, Close}
+use Rattle.path.specs.declared.style.Cap.{Cap}
+use Rattle.path.specs.declared.style.Cap.TheVariants as cap-is
+use Rattle.path.specs.Kinds.{kind}
+use Rattle.path.specs.Vectors.{multiple, difference}
+use Rattle.segments.specs.declared.segment.Segment.{Segment}
+use Rattle.segments.specs.declared.segment.Segment.TheVariants.{Line, Curve, End}
+use Rattle.pen.specs.declared.nib.Nib.{Nib}
+use Rattle.pen.specs.declared.offset.OffsetSegment.{OffsetSegment}
+use Rattle.pen.specs.declared.corner.Turn.{Turn}
+use Rattle.pen.specs.declared.corner.Corner.{Corner}
+use Rattle.pen.specs.declared.corner.Corner.TheVariants.{Meet, Inner, Bevel, Round, NegativeDot, PastLimit, Miter}
+use Rattle.pen.specs.Corners.{corner_of}
+use Rattle.arcs.specs.declared.arc_to.ArcTo.{ArcTo}
+use Rattle.arcs.specs.Centres.{half_chord}
+use Rattle.arcs.specs.Curves.{all_curves, no_chord, turned_of, centred_of, round_curves, arc_curves}
+use Rattle.joins.specs.Joins.{shaped, shaped_questions, split_corner, half_circle}
+use Rattle.joins.specs.Caps.{cap_commands, cap_questions}
+use Rattle.cursor.specs.Laws.{Each}
+use Rattle.stroke.specs.Events.{Event, asks, sends, asked_then_sent}
+use Rattle.stroke.specs.Outlines.{turn_between, emitted, join_events, split_events, cap_events, forward, one_forward, back_events, backward, side, sides, other_sides, last_side, end_cap_events, cross_events, start_cap_events, finish_events, open_ring, closed_ring, dash_ring, ring_of, around, across, has_cap}
+use Rattle.stroke.specs.Ranges.{stretch, pieces, dot_slice, dot_around, dash_dot, stretch_outline, is_dot, range_outline}
+use Rattle.stroke.specs.Contours.{row, Closing, Contour, ContourOrNone}
+
+pub row_append : (es fs : List Event) → row (es ++ fs) ≡ row es ++ row fs
+unfolding row
+row_append [] fs = refl
+row_append (asks q ∷ es) fs = row_append es fs
+row_append (sends c ∷ es) fs = ap (λ l. c ∷ l) (row_append es fs)
+
+pub row_sends : (cs : List Command) → row (map sends cs) ≡ cs
+unfolding row
+row_sends [] = refl
+row_sends (c ∷ cs) = ap (λ l. c ∷ l) (row_sends cs)
+
+pub row_asks : (qs : List Question) (es : List Event) → row (map asks qs ++ es) ≡ row es
+unfolding row
+row_asks [] es = refl
+row_asks (q ∷ qs) es = row_asks qs es
+
+pub row_both : (qs : List Question) (cs : List Command) → row (asked_then_sent qs cs) ≡ cs
+row_both qs cs = row_asks qs (map sends cs) ∙ row_sends cs
+
+-- a line or a curve
+abbrev pub IsSide : Command → Type 0
+IsSide (MoveTo p) = ⊥
+IsSide (LineTo p) = Unit {0}
+IsSide (CurveTo a b p) = Unit {0}
+IsSide (QuadTo a p) = ⊥
+IsSide Close = ⊥
+
+abbrev pub Sides : List Command → Type 0
+Sides cs = Each IsSide cs
+
+-- nothing but lines and curves is sent
+abbrev pub SidesSent : List Event → Type 0
+SidesSent es = Sides (row es)
+
+-- and then a close
+abbrev pub Closes : List Event → Type 0
+Closes es = Closing (map kind (row es))
+
+each_both : {X : Type 0} (P : X → Type 0) (xs ys : List X) → Each P xs → Each P ys → Each P (xs ++ ys)
+each_both P [] ys h k = k
+each_both P (x ∷ xs) ys h k = (h.0, each_both P xs ys h.1 k)
+
+pub sides_both : (es fs : List Event) → SidesSent es → SidesSent fs → SidesSent (es ++ fs)
+sides_both es fs h k = subst Sides (sym (row_append es fs)) (each_both IsSide (row es) (row fs) h k)
+
+pub sides_sent : (qs : List Question) (cs : List Command) → Sides cs → SidesSent (asked_then_sent qs cs)
+sides_sent qs cs h = subst Sides (sym (row_both qs cs)) h
+
+closing_after : (cs ds : List Command) → Sides cs → Closing (map kind ds) → Closing (map kind (cs ++ ds))
+closing_after [] ds h k = k
+closing_after (MoveTo p ∷ cs) ds h k = absurd h.0
+closing_after (LineTo p ∷ cs) ds h k = closing_after cs ds h.1 k
+closing_after (CurveTo a b p ∷ cs) ds h k = closing_after cs ds h.1 k
+closing_after (QuadTo a p ∷ cs) ds h k = absurd h.0
+closing_after (Close ∷ cs) ds h k = absurd h.0
+
+pub closes_after : (es fs : List Event) → SidesSent es → Closes fs → Closes (es ++ fs)
+closes_after es fs h k = subst (λ (cs : List Command). Closing (map kind cs)) (sym (row_append es fs)) (closing_after (row es) (row fs) h k)
+
+-- arcs, joins and caps
+curves_sides : (n : ℕ) (F : Functions) (e : _) (t each : Float) → Sides (all_curves n F e t each)
+unfolding all_curves
+curves_sides zero F e t each = tt
+curves_sides (suc n) F e t each = (tt, curves_sides n F e (t ⊕ each) each)
+
+pub arc_sides : (F : Functions) (scaled : Bool) (a : ArcTo) → Sides (arc_curves F scaled a)
+unfolding arc_curves
+arc_sides F scaled a = cond_both (no_chord (half_chord a (turned_of F a.angle))) [] (round_curves F a (turned_of F a.angle) (centred_of F scaled a)) Sides (λ _. tt) (λ _. curves_sides _ F _ _ _)
+
+shaped_sides : (F : Functions) (c : Corner) (nib : Nib) (t : Turn) → Sides (shaped F c nib t)
+shaped_sides F Meet nib t = tt
+shaped_sides F Inner nib t = (tt, (tt, tt))
+shaped_sides F Bevel nib t = (tt, tt)
+shaped_sides F Round nib t = arc_sides F false (half_circle nib.radius t)
+shaped_sides F NegativeDot nib t = (tt, tt)
+shaped_sides F PastLimit nib t = (tt, tt)
+shaped_sides F Miter nib t = (tt, (tt, tt))
+
+pub join_sides : (F : Functions) (nib : Nib) (t : Turn) → SidesSent (join_events F nib t)
+join_sides F nib t = sides_sent (shaped_questions F (corner_of nib t) nib t) (shaped F (corner_of nib t) nib t) (shaped_sides F (corner_of nib t) nib t)
+
+pub split_sides : (F : Functions) (nib : Nib) (t : Turn) → SidesSent (split_events F nib t)
+split_sides F nib t = sides_sent (shaped_questions F (split_corner t) nib t) (shaped F (split_corner t) nib t) (shaped_sides F (split_corner t) nib t)
+
+pub back_sides : (F : Functions) (nib : Nib) (o p : OffsetSegment) → SidesSent (back_events F nib o p)
+back_sides F nib o p = cond_both (p.id.mark == o.id.mark) (split_events F nib (turn_between o p)) (join_events F nib (turn_between o p)) SidesSent (λ _. split_sides F nib (turn_between o p)) (λ _. join_sides F nib (turn_between o p))
+
+capped_sides : (F : Functions) (shape : Cap) (r : Float) (t : Turn) → Sides (cap_commands F shape r t)
+capped_sides F cap-is.Butt r t = (tt, tt)
+capped_sides F cap-is.Square r t = (tt, (tt, (tt, tt)))
+capped_sides F cap-is.Round r t = arc_sides F false (half_circle r t)
+
+pub cap_sides : (F : Functions) (shape : Cap) (r : Float) (t : Turn) → SidesSent (cap_events F shape r t)
+cap_sides F shape r t = sides_sent (cap_questions F shape r t) (cap_commands F shape r t) (capped_sides F shape r t)
+
+-- a side, and all sides one after the other
+pub emitted_sides : (s : Segment) → SidesSent (map sends (emitted s))
+unfolding row
+emitted_sides (Line i l) = (tt, tt)
+emitted_sides (Curve i k) = (tt, tt)
+emitted_sides (End closed) = tt
+
+pub forward_sides : (F : Functions) (nib : Nib) (o : OffsetSegment) (ps : List OffsetSegment) → SidesSent (forward F nib o ps)
+unfolding forward row
+forward_sides F nib o [] = tt
+forward_sides F nib o (p ∷ ps) = sides_both (join_events F nib (turn_between o p)) _ (join_sides F nib (turn_between o p)) (sides_both (map sends (emitted p.segment)) (forward F nib p ps) (emitted_sides p.segment) (forward_sides F nib p ps))
+
+pub backward_sides : (F : Functions) (nib : Nib) (o : OffsetSegment) (ps : List OffsetSegment) → SidesSent (backward F nib o ps)
+unfolding backward row
+backward_sides F nib o [] = tt
+backward_sides F nib o (p ∷ ps) = sides_both (back_events F nib o p) _ (back_sides F nib o p) (sides_both (map sends (emitted p.segment)) (backward F nib p ps) (emitted_sides p.segment) (backward_sides F nib p ps))
+
+-- the ends of rings
+end_closes : Closes (sends Close ∷ [])
+unfolding row
+end_closes = refl
+
+finish_closes : (F : Functions) (nib : Nib) (o p : OffsetSegment) → Closes (finish_events F nib o p)
+finish_closes F nib o p = closes_after (start_cap_events F nib o p) (sends Close ∷ []) (cap_sides F nib.start_cap nib.radius (turn_between o p)) end_closes
+
+cross_sides : (F : Functions) (nib : Nib) (o p : OffsetSegment) → SidesSent (cross_events F nib o p)
+cross_sides F nib o p = sides_both (end_cap_events F nib o p) (map sends (emitted p.segment)) (cap_sides F nib.end_cap nib.radius (turn_between o p)) (emitted_sides p.segment)
+
+back_closes : (F : Functions) (nib : Nib) (end p : OffsetSegment) (ps : List OffsetSegment) (o : OffsetSegment) → Closes (cross_events F nib end p ++ (backward F nib p ps ++ finish_events F nib (last_side p ps) o))
+back_closes F nib end p ps o =
+    closes_after (cross_events F nib end p) _ (cross_sides F nib end p) (closes_after (backward F nib p ps) (finish_events F nib (last_side p ps) o) (backward_sides F nib p ps) (finish_closes F nib (last_side p ps) o))
+
+begun : (p : Vector) (es : List Event) → Closes es → Contour (row (sends (MoveTo p) ∷ es))
+unfolding row
+begun p es h = record { rest = map kind (row es); begins = refl; ends = h }
+
+-- the rings
+open_contour : (F : Functions) (nib : Nib) (o : OffsetSegment) (os : List OffsetSegment) (p : OffsetSegment) (ps : List OffsetSegment) → Contour (row (open_ring F nib o os p ps))
+open_contour F nib o os p ps =
+    begun o.start _ (closes_after (map sends (emitted o.segment)) _ (emitted_sides o.segment) (closes_after (forward F nib o os) _ (forward_sides F nib o os) (back_closes F nib (last_side o os) p ps o)))
+
+dash_contour : (F : Functions) (nib : Nib) (o : OffsetSegment) (os : List OffsetSegment) (p : OffsetSegment) (ps : List OffsetSegment) → Contour (row (dash_ring F nib o os p ps))
+dash_contour F nib o os p ps =
+    begun o.start _ (closes_after (map sends (emitted o.segment)) _ (emitted_sides o.segment) (closes_after (backward F nib o os) _ (backward_sides F nib o os) (back_closes F nib (last_side o os) p ps o)))
+
+line_closes : (p : Vector) (es : List Event) → Closes es → Closes (sends (LineTo p) ∷ es)
+unfolding row
+line_closes p es h = h
+
+one_sides : (F : Functions) (nib : Nib) (o p : OffsetSegment) → SidesSent (one_forward F nib o p)
+one_sides F nib o p = sides_both (join_events F nib (turn_between o p)) (map sends (emitted p.segment)) (join_sides F nib (turn_between o p)) (emitted_sides p.segment)
+
+closed_contour : (F : Functions) (nib : Nib) (o : OffsetSegment) (os : List OffsetSegment) (p : OffsetSegment) (ps : List OffsetSegment) → Contour (row (closed_ring F nib o os p ps))
+closed_contour F nib o os p ps =
+    let end = last_side o os in
+    let back = last_side p ps in
+    begun end.end _ (closes_after (forward F nib end (o ∷ os)) _ (forward_sides F nib end (o ∷ os)) (line_closes back.end _
+    (closes_after (one_forward F nib back p) _ (one_sides F nib back p) (closes_after (backward F nib p ps) (sends Close ∷ []) (backward_sides F nib p ps) end_closes))))
+
+pub ring_contour : (closed : Bool) (F : Functions) (nib : Nib) (o : OffsetSegment) (os : List OffsetSegment) (p : OffsetSegment) (ps : List OffsetSegment) → Contour (row (ring_of closed F nib o os p ps))
+ring_contour true F nib o os p ps = closed_contour F nib o os p ps
+ring_contour false F nib o os p ps = open_contour F nib o os p ps
+
+-- a dash of length 0
+dot_contour : (F : Functions) (nib : Nib) (o : OffsetSegment) → Contour (row (dot_around F nib o))
+dot_contour F nib o =
+    let q = difference o.start (multiple o.start_normal (two ⊗ nib.radius)) in
+    let there = across o.start q o.start_normal in
+    let back = across q o.start (multiple o.start_normal (neg one)) in
+    let end = cap_events F nib.end_cap nib.radius there in
+    let start = cap_events F nib.start_cap nib.radius back in
+    begun o.start _ (closes_after (end ++ start) (sends Close ∷ []) (sides_both end start (cap_sides F nib.end_cap nib.radius there) (cap_sides F nib.start_cap nib.radius back)) end_closes)
+
+-- dashes
+some_or_none : (cs : List Command) → Contour cs → ContourOrNone cs
+some_or_none [] h = tt
+some_or_none (c ∷ cs) h = h
+
+abbrev DrawsOrNone : List Event → Type 0
+DrawsOrNone es = ContourOrNone (row es)
+
+no_contour : DrawsOrNone []
+unfolding row
+no_contour = tt
+
+ring_or_none : (F : Functions) (nib : Nib) (os ps : List OffsetSegment) → DrawsOrNone (around (dash_ring F nib) os ps)
+ring_or_none F nib [] ps = no_contour
+ring_or_none F nib (o ∷ os) [] = no_contour
+ring_or_none F nib (o ∷ os) (p ∷ ps) = some_or_none _ (dash_contour F nib o os p ps)
+
+dot_or_none : (F : Functions) (nib : Nib) (t : Float) (ys : List Segment) → DrawsOrNone (dash_dot F nib t ys)
+dot_or_none F nib t [] = no_contour
+dot_or_none F nib t (x ∷ ys) = let o = side nib (dot_slice x t) in cond_both (has_cap nib) (dot_around F nib o) [] DrawsOrNone (λ _. some_or_none _ (dot_contour F nib o)) (λ _. no_contour)
+
+-- What is sent for a dash is a contour, or nothing.
+pub range_contour : (F : Functions) (nib : Nib) (xs : List Segment) (from to : ℕ) (t0 t1 : Float) → ContourOrNone (row (range_outline F nib xs from to t0 t1))
+range_contour F nib xs from to t0 t1 =
+    let ys = stretch xs from to in
+    cond_both (is_dot from to t0 t1) (dash_dot F nib t0 ys) (stretch_outline F nib t0 t1 ys) DrawsOrNone (λ _. dot_or_none F nib t0 ys) (λ _. ring_or_none F nib (sides nib (pieces t0 t1 ys)) (other_sides nib (pieces t0 t1 ys)))
