@@ -1,4 +1,5 @@
 mod Contours
 mod Drawn
 mod Playing
+mod Stretches
 mod Walking

@@ -7,4 +7,5 @@ mod outliner;
 mod parts;
 mod passes;
 mod row;
+mod stretch;
 mod walks;

@@ -1,0 +1,125 @@
+-- The pieces of a dash, by place.
+use Rattle.std.proofs.Common.{◌≡◌, ℕ, zero, suc, ◌+◌, ◌-◌, ◌<◌, ◌≤◌, ◌==◌, cond, nat_lt, List, [], ◌∷◌, ◌++◌, length, take, drop, get_or, Some, None, Option, sym, refl, ap, ◌∙◌, arith, length-append, add-one, true, false, drop-drop}
+use Rattle.std.specs.Prelude.{Float}
+use Rattle.std.specs.List.{slice_get}
+use Rattle.std.specs.Float.Ieee.{le}
+use Rattle.std.proofs.lemmas.Bool.{cond_both, eqb-true, eqb-false, ltb-true, ltb-false, ne_eqb, cond-true, cond-false}
+use Rattle.std.proofs.lemmas.List.{get_or-take, get_or-drop, get_or_append_left, get_or-append_right, length-drop, length-take-le}
+use Rattle.std.proofs.lemmas.Option.{slice_get_past, get_or_from_slice_get}
+use Rattle.numbers.specs.Arithmetic.{zero as zero_f, one}
+use Rattle.segments.specs.declared.segment.Segment.{Segment}
+use Rattle.segments.specs.Pieces.{segment_slice}
+use Rattle.stroke.specs.Ranges.{sliced, stretch, pieces}
+use Rattle.stroke.proofs.Walking.{found_none}
+
+pub length_sliced : (t0 t1 : Float) (ys : List Segment) → length (sliced t0 t1 ys) ≡ length ys
+unfolding sliced
+length_sliced t0 t1 [] = refl
+length_sliced t0 t1 (x ∷ []) = refl
+length_sliced t0 t1 (x ∷ y ∷ ys) = ap suc (length_sliced zero_f t1 (y ∷ ys))
+
+length_part : (xs : List Segment) (from count : ℕ) → from + count ≤ length xs + length xs → length (take count (drop from (xs ++ xs))) ≡ count
+length_part xs from count within = length-take-le count (drop from (xs ++ xs)) (omega (arith, length-drop from (xs ++ xs), length-append xs xs))
+
+pub length_taken : (t0 t1 : Float) (xs : List Segment) (from count : ℕ) → from + count ≤ length xs + length xs → length (sliced t0 t1 (take count (drop from (xs ++ xs)))) ≡ count
+length_taken t0 t1 xs from count within = length_sliced t0 t1 _ ∙ length_part xs from count within
+
+-- where a piece begins
+abbrev begins : Float → ℕ → Float
+begins t0 zero = t0
+begins t0 (suc k) = zero_f
+
+begins_at : (t0 : Float) (k : ℕ) → begins t0 k ≡ cond (k == 0) t0 zero_f
+begins_at t0 zero = refl
+begins_at t0 (suc k) = sym (cond-false (suc k == 0) t0 zero_f (ne_eqb (suc k) 0 (λ e. omega (arith, e))))
+
+-- the last piece ends at the time told, and one before it at the end of its segment
+sliced_last : (t0 t1 : Float) (ys : List Segment) (k : ℕ) (d : Segment) → k + 1 ≡ length ys
+    → slice_get (sliced t0 t1 ys) k ≡ Some (segment_slice (get_or ys k d) (begins t0 k) t1)
+unfolding sliced
+sliced_last t0 t1 [] k d last = absurd (omega (arith, last))
+sliced_last t0 t1 (x ∷ []) zero d last = refl
+sliced_last t0 t1 (x ∷ []) (suc k) d last = absurd (omega (arith, last))
+sliced_last t0 t1 (x ∷ y ∷ ys) zero d last = absurd (omega (arith, last))
+sliced_last t0 t1 (x ∷ y ∷ ys) (suc zero) d last = sliced_last zero_f t1 (y ∷ ys) zero d (omega (arith, last))
+sliced_last t0 t1 (x ∷ y ∷ ys) (suc (suc k)) d last = sliced_last zero_f t1 (y ∷ ys) (suc k) d (omega (arith, last))
+
+sliced_inner : (t0 t1 : Float) (ys : List Segment) (k : ℕ) (d : Segment) → k + 1 < length ys
+    → slice_get (sliced t0 t1 ys) k ≡ Some (segment_slice (get_or ys k d) (begins t0 k) one)
+unfolding sliced
+sliced_inner t0 t1 [] k d inner = absurd (omega (arith, inner))
+sliced_inner t0 t1 (x ∷ []) k d inner = absurd (omega (arith, inner))
+sliced_inner t0 t1 (x ∷ y ∷ ys) zero d inner = refl
+sliced_inner t0 t1 (x ∷ y ∷ ys) (suc zero) d inner = sliced_inner zero_f t1 (y ∷ ys) zero d (omega (arith, inner))
+sliced_inner t0 t1 (x ∷ y ∷ ys) (suc (suc k)) d inner = sliced_inner zero_f t1 (y ∷ ys) (suc k) d (omega (arith, inner))
+
+-- the piece at a place
+sliced_get : (t0 t1 : Float) (ys : List Segment) (n k : ℕ) (d : Segment) → length ys ≡ n → k < n
+    → slice_get (sliced t0 t1 ys) k ≡ Some (segment_slice (get_or ys k d) (cond (k == 0) t0 zero_f) (cond (n == k + 1) t1 one))
+sliced_get t0 t1 ys n k d is within =
+    cond_both (n == k + 1) t1 one (λ (e : Float). slice_get (sliced t0 t1 ys) k ≡ Some (segment_slice (get_or ys k d) (begins t0 k) e))
+    (λ e. sliced_last t0 t1 ys k d (omega (arith, is, eqb-true n (k + 1) e)))
+    (λ e. sliced_inner t0 t1 ys k d (let ne = eqb-false n (k + 1) e in omega (arith, is, ne)))
+    ∙ ap (λ (b : Float). Some (segment_slice (get_or ys k d) b (cond (n == k + 1) t1 one))) (begins_at t0 k)
+
+-- of the run written twice
+twice_get : (xs : List Segment) (j : ℕ) (d : Segment) → get_or (xs ++ xs) j d ≡ get_or xs (cond (nat_lt j (length xs)) j (j - length xs)) d
+twice_get xs j d = cond_both (nat_lt j (length xs)) j (j - length xs) (λ (i : ℕ). get_or (xs ++ xs) j d ≡ get_or xs i d)
+    (λ e. get_or_append_left xs xs d j (ltb-true j (length xs) e))
+    (λ e. get_or-append_right xs xs (length xs) j d refl (ltb-false j (length xs) e))
+
+-- and of a part of it
+part_get : (xs : List Segment) (from count k : ℕ) (d : Segment) → k < count → get_or (take count (drop from (xs ++ xs))) k d ≡ get_or xs (cond (nat_lt (from + k) (length xs)) (from + k) (from + k - length xs)) d
+part_get xs from count k d within = get_or-take count (drop from (xs ++ xs)) k d within ∙ get_or-drop from (xs ++ xs) k d ∙ twice_get xs (from + k) d
+
+abbrev at : List Segment → ℕ → ℕ → ℕ
+at xs from k = cond (nat_lt (from + k) (length xs)) (from + k) (from + k - length xs)
+
+-- so the piece at a place of a stretch is that of the segment there
+pub stretch_get : (t0 t1 : Float) (xs : List Segment) (from count k : ℕ) (x : Segment) {found : Option Segment} → from + count ≤ length xs + length xs → k < count
+    → found ≡ slice_get xs (at xs from k) → found ≡ Some x
+    → Some (segment_slice x (cond (k == 0) t0 zero_f) (cond (count == k + 1) t1 one)) ≡ slice_get (sliced t0 t1 (take count (drop from (xs ++ xs)))) k
+stretch_get t0 t1 xs from count k x fits within there is =
+    let got = part_get xs from count k x within ∙ get_or_from_slice_get xs (at xs from k) x x (sym there ∙ is) in
+    ap (λ (y : Segment). Some (segment_slice y (cond (k == 0) t0 zero_f) (cond (count == k + 1) t1 one))) (sym got)
+    ∙ sym (sliced_get t0 t1 (take count (drop from (xs ++ xs))) count k x (length_part xs from count fits) within)
+
+-- there is one
+at_within : (xs : List Segment) (from count k : ℕ) → from + count ≤ length xs + length xs → k < count → at xs from k < length xs
+at_within xs from count k fits within = cond_both (nat_lt (from + k) (length xs)) (from + k) (from + k - length xs) (λ (i : ℕ). i < length xs)
+    (λ e. ltb-true (from + k) (length xs) e)
+    (λ e. omega (arith, ltb-false (from + k) (length xs) e))
+
+pub stretch_found : {P : Type 0} (xs : List Segment) (from count k : ℕ) {found : Option Segment} → from + count ≤ length xs + length xs → k < count
+    → found ≡ slice_get xs (at xs from k) → found ≡ None → P
+stretch_found xs from count k fits within there is = absurd (let past = found_none xs (at xs from k) there is in omega (arith, at_within xs from count k fits within))
+
+-- and past the last none
+pub stretch_past : (t0 t1 : Float) (xs : List Segment) (from count k : ℕ) → from + count ≤ length xs + length xs → count ≤ k → None ≡ slice_get (sliced t0 t1 (take count (drop from (xs ++ xs)))) k
+stretch_past t0 t1 xs from count k fits past = sym (slice_get_past (sliced t0 t1 (take count (drop from (xs ++ xs)))) k (omega (arith, length_taken t0 t1 xs from count fits)))
+
+drop_first : {X : Type 0} (n : ℕ) (xs : List X) → drop 1 (take (n + 1) xs) ≡ take n (drop 1 xs)
+drop_first zero [] = refl
+drop_first (suc n) [] = rw add-one refl
+drop_first n (x ∷ xs) = rw add-one refl
+
+-- the places of a stretch
+part_of : (xs : List Segment) (from to n : ℕ) → n ≡ to + 1 - from → take n (drop from (xs ++ xs)) ≡ stretch xs from to
+part_of xs from to n is = ap (λ m. take m (drop from (xs ++ xs))) is
+
+-- and all but the first
+part_past : (xs : List Segment) (from to from' count : ℕ) → from ≤ to → from' ≡ from + 1 → count ≡ to - from → take count (drop from' (xs ++ xs)) ≡ drop 1 (stretch xs from to)
+part_past xs from to from' count order next few =
+    ap (λ i. take count (drop i (xs ++ xs))) next ∙ ap (take count) (sym (drop-drop 1 from (xs ++ xs))) ∙ sym (drop_first count (drop from (xs ++ xs)))
+    ∙ ap (drop 1) (part_of xs from to (count + 1) (omega (arith, few)))
+
+-- the pieces of a dash that begins at the end of its first segment, and of any other
+pub pieces_past : (t0 t1 : Float) (xs : List Segment) (from to from' count : ℕ) → from ≤ to → le one t0 ≡ true → from' ≡ from + 1 → count ≡ to - from
+    → sliced zero_f t1 (take count (drop from' (xs ++ xs))) ≡ pieces t0 t1 (stretch xs from to)
+pieces_past t0 t1 xs from to from' count order past next few =
+    ap (sliced zero_f t1) (part_past xs from to from' count order next few) ∙ sym (cond-true (le one t0) (sliced zero_f t1 (drop 1 (stretch xs from to))) (sliced t0 t1 (stretch xs from to)) past)
+
+pub pieces_from : (t0 t1 : Float) (xs : List Segment) (from to count : ℕ) → from ≤ to → le one t0 ≡ false → count ≡ to - from + 1
+    → sliced t0 t1 (take count (drop from (xs ++ xs))) ≡ pieces t0 t1 (stretch xs from to)
+pieces_from t0 t1 xs from to count order before few =
+    ap (sliced t0 t1) (part_of xs from to count (omega (arith, few))) ∙ sym (cond-false (le one t0) (sliced zero_f t1 (drop 1 (stretch xs from to))) (sliced t0 t1 (stretch xs from to)) before)

@@ -1,0 +1,90 @@
+ghost use Rattle.std.specs.Prelude.{◌≡◌, ◌+◌, ◌-◌, ◌^◌, ◌<◌, ◌≤◌, ◌==◌, ◌++◌, length, take, drop, cond, nat_lt};
+ghost use Rattle.numbers.specs.Arithmetic.{zero, one};
+ghost use Rattle.segments.specs.Pieces.{segment_slice};
+ghost use Rattle.stroke.specs.Ranges.{sliced, stretch, pieces as dash_pieces};
+
+use crate::row::Row;
+use segments::segment::Segment;
+use storage::storage::Storage;
+
+/// The pieces of a dash: so many places of the run written twice, the first from a time on and the last
+/// up to a time.
+pub(crate) struct Stretch<'b, B: Storage> {
+    storage: &'b B,
+    from: usize,
+    count: usize,
+    t0: f32,
+    t1: f32,
+    ghost within: { from + count ≤ length (B.held storage.now) + length (B.held storage.now) },
+}
+
+// The place in a run of n segments that a place of the run written twice stands for.
+fn place(n: usize, from: usize, k: usize) -> usize
+    requires { from + k < n + n }
+    ensures { result ≡ cond (nat_lt (from + k) n) (from + k) (from + k - n) }
+{
+    if from >= n {
+        from - n + k
+    } else if k < n - from {
+        from + k
+    } else {
+        k - (n - from)
+    }
+}
+
+impl<'b, B: Storage> Stretch<'b, B> {
+    /// From a time in one place to a time in another. A dash that begins at the end of its first segment
+    /// has nothing of it.
+    #[tactic(auto, using(crate::proofs::Stretches::pieces_past, crate::proofs::Stretches::pieces_from))]
+    pub(crate) fn new(storage: &'b B, from: usize, to: usize, t0: f32, t1: f32) -> Stretch<'b, B>
+        requires order { from ≤ to }
+        requires within { to < length (B.held storage.now) + length (B.held storage.now) }
+        requires few { to + 1 < 2 ^ 64 }
+        ensures { ⟦<Stretch<'b, B> as Row>⟧.pieces result ≡ dash_pieces t0 t1 (stretch (B.held storage.now) from to) }
+    {
+        if t0 >= 1.0 {
+            return Stretch {
+                storage,
+                from: from + 1,
+                count: to - from,
+                t0: 0.0,
+                t1,
+            };
+        }
+        Stretch {
+            storage,
+            from,
+            count: to - from + 1,
+            t0,
+            t1,
+        }
+    }
+
+    // The piece of a segment at a place.
+    fn piece(&self, segment: Segment, k: usize) -> Segment
+        requires { k < self.now.count }
+        ensures { result ≡ segment_slice segment (cond (k == 0) self.now.t0 zero) (cond (self.now.count == k + 1) self.now.t1 one) }
+    {
+        let t0 = if k == 0 { self.t0 } else { 0.0 };
+        let t1 = if self.count == k + 1 { self.t1 } else { 1.0 };
+        segment.slice(t0, t1)
+    }
+}
+
+impl<'b, B: Storage> Row for Stretch<'b, B> {
+    ghost pieces = { λ r. sliced r.t0 r.t1 (take r.count (drop r.from (B.held r.storage.now ++ B.held r.storage.now))) };
+
+    #[tactic(auto, using(crate::proofs::Stretches::length_taken))]
+    fn len(&self) -> usize {
+        self.count
+    }
+
+    #[tactic(auto, using(crate::proofs::Stretches::stretch_past, crate::proofs::Stretches::stretch_get, crate::proofs::Stretches::stretch_found))]
+    fn get(&self, k: usize) -> Option<Segment> {
+        if k >= self.count {
+            return None;
+        }
+        let segment = self.storage.get(place(self.storage.len(), self.from, k))?;
+        Some(self.piece(segment, k))
+    }
+}
