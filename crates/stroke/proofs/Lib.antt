@@ -1,5 +1,6 @@
 mod Contours
 mod Drawn
+mod Offsets
 mod Playing
 mod Stretches
 mod Walking
