@@ -3,4 +3,5 @@ mod Drawn
 mod Offsets
 mod Playing
 mod Stretches
+mod Two
 mod Walking

@@ -1,15 +1,17 @@
 -- The sides of a run, one after the other.
-use Rattle.std.proofs.Common.{◌≡◌, ℕ, zero, suc, ◌+◌, ◌-◌, ◌<◌, ◌≤◌, List, [], ◌∷◌, ◌++◌, map, reverse, length, take, drop, true, is_err, IfOk, Some, None, Ok, Err, Option, Result, sym, refl, ap, ◌∙◌, append_assoc, add-one, arith, drop_of_length-le}
+use Rattle.std.proofs.Common.{◌≡◌, ℕ, zero, suc, ◌+◌, ◌-◌, ◌<◌, ◌≤◌, List, [], ◌∷◌, ◌++◌, Bool, map, reverse, length, take, drop, true, false, is_err, IfOk, Some, None, Ok, Err, Option, Result, sym, refl, ap, ◌∙◌, append_assoc, add-one, arith, drop_of_length-le}
 use mathlib.Core.List.{reverse-append}
 use Rattle.std.specs.List.{slice_get}
 use Rattle.std.proofs.Math.Seq.{drop-cons, take-suc}
+use Rattle.std.proofs.lemmas.List.{take_all}
 use Rattle.std.proofs.lemmas.Option.{slice_get_within, get_or_from_slice_get}
 use Rattle.maths.specs.Functions.{Functions}
 use Rattle.segments.specs.declared.segment.Segment.{Segment}
 use Rattle.pen.specs.declared.nib.Nib.{Nib}
 use Rattle.pen.specs.declared.offset.OffsetSegment.{OffsetSegment}
 use Rattle.stroke.specs.Events.{Event, sends}
-use Rattle.stroke.specs.Outlines.{turn_between, emitted, join_events, back_events, one_forward, one_back, forward, backward, side, other_side, last_side, cross_events, finish_events}
+use Rattle.stroke.specs.Outlines.{turn_between, emitted, join_events, back_events, one_forward, one_back, forward, backward, side, other_side, sides, other_sides, around}
+use Rattle.stroke.specs.Rings.{one_there, there, last_of, first_and_last, sides_on, other_sides_on}
 
 -- the sides that are left from a place on
 pub sides_left : (f : Segment → OffsetSegment) (xs : List Segment) (i : ℕ) (x : Segment) {o : OffsetSegment} {found : Option Segment} → found ≡ slice_get xs i → found ≡ Some x → o ≡ f x
@@ -56,6 +58,14 @@ pub backward_none : (F : Functions) (nib : Nib) (o : OffsetSegment) {left : List
 unfolding backward
 backward_none F nib o none = ap (backward F nib o) none
 
+pub there_next : (split : Bool) (F : Functions) (nib : Nib) (o p : OffsetSegment) (ps : List OffsetSegment) {left : List OffsetSegment} → left ≡ p ∷ ps → there split F nib o left ≡ one_there split F nib o p ++ there split F nib p ps
+there_next true F nib o p ps is = backward_next F nib o p ps is
+there_next false F nib o p ps is = forward_next F nib o p ps is
+
+pub there_none : (split : Bool) (F : Functions) (nib : Nib) (o : OffsetSegment) {left : List OffsetSegment} → left ≡ [] → there split F nib o left ≡ []
+there_none true F nib o none = backward_none F nib o none
+there_none false F nib o none = forward_none F nib o none
+
 -- a refusal answers no side
 pub refused_made : {X Y : Type 0} (P : X → Type 0) (r : Result X Y) → is_err r ≡ true → IfOk r P
 refused_made P (Ok x) wrong = absurd (let z : ◌≡◌ {A = ℕ} 0 1 = cc in omega arith)
@@ -67,26 +77,45 @@ found_none [] i there is = omega arith
 found_none (y ∷ ys) zero there is = absurd (let z : ◌≡◌ {A = ℕ} 0 1 = cc in omega arith)
 found_none (y ∷ ys) (suc i) there is = omega (arith, found_none ys i there is)
 
--- what is left of an open outline past its sides backward, its end, its sides forward, and its start
-abbrev pub past_back : OffsetSegment → OffsetSegment → ℕ → List Segment → Functions → Nib → List Event
-past_back p o count xs F nib = finish_events F nib (last_side p (map (other_side nib) (reverse (take count xs)))) o
+-- the first segment of a row and the last are where its sides begin and end
+last_at : (x : Segment) (xs : List Segment) → slice_get (x ∷ xs) (length xs) ≡ Some (last_of x xs)
+last_at x [] = refl
+last_at x (y ∷ ys) = last_at y ys
 
-abbrev pub past_end : OffsetSegment → OffsetSegment → ℕ → List Segment → Functions → Nib → List Event
-past_end p o count xs F nib = backward F nib p (map (other_side nib) (reverse (take count xs))) ++ past_back p o count xs F nib
+pub ends_found : (xs : List Segment) (n : ℕ) (x y : Segment) → n ≡ length xs → slice_get xs 0 ≡ Some x → slice_get xs (n - 1) ≡ Some y → Some (x, y) ≡ first_and_last xs
+ends_found [] n x y long first last = absurd (let z : ◌≡◌ {A = ℕ} 0 1 = cc in omega arith)
+ends_found (z ∷ zs) n x y long first last =
+    let back : n - 1 ≡ length zs = omega arith in
+    let at = last_at z zs in
+    let same : ◌≡◌ {A = Option (Segment × Segment)} (Some (x, y)) (Some (z, last_of z zs)) = cc in
+    same
 
-abbrev pub past_there : OffsetSegment → OffsetSegment → ℕ → List Segment → Functions → Nib → List Event
-past_there o p count xs F nib = cross_events F nib (last_side o (map (side nib) (drop 1 xs))) p ++ past_end p o count xs F nib
+pub empty_row : (xs : List Segment) → first_and_last xs ≡ None → xs ≡ []
+empty_row [] none = refl
+empty_row (z ∷ zs) none = absurd (let y : ◌≡◌ {A = ℕ} 0 1 = cc in omega arith)
 
-abbrev pub past_start : OffsetSegment → OffsetSegment → ℕ → List Segment → Functions → Nib → List Event
-past_start o p count xs F nib = forward F nib o (map (side nib) (drop 1 xs)) ++ past_there o p count xs F nib
+pub first_side : (nib : Nib) (xs : List Segment) (x y : Segment) → first_and_last xs ≡ Some (x, y) → sides nib xs ≡ side nib x ∷ sides_on nib xs
+first_side nib [] x y is = absurd (let z : ◌≡◌ {A = ℕ} 0 1 = cc in omega arith)
+first_side nib (z ∷ zs) x y is =
+    let same : ◌≡◌ {A = Segment × Segment} (z, last_of z zs) (x, y) = cc in
+    ap (λ (s : Segment × Segment). side nib s.0 ∷ map (side nib) zs) same
 
--- the code has the last side in hand, from before the nib was passed on
-pub end_reached : (o p : OffsetSegment) (count : ℕ) (xs : List Segment) (F : Functions) {nib n : Nib} {end : OffsetSegment} → end ≡ last_side o (map (side n) (drop 1 xs)) → nib ≡ n
-    → past_there o p count xs F nib ≡ cross_events F nib end p ++ past_end p o count xs F nib
-end_reached o p count xs F {nib = nib} last same =
-    ap (λ (x : OffsetSegment). cross_events F nib x p ++ past_end p o count xs F nib) (ap (λ (m : Nib). last_side o (map (side m) (drop 1 xs))) same ∙ sym last)
+pub first_other_side : (nib : Nib) (xs : List Segment) (x y : Segment) → first_and_last xs ≡ Some (x, y) → other_sides nib xs ≡ other_side nib y ∷ other_sides_on nib xs
+first_other_side nib [] x y is = absurd (let z : ◌≡◌ {A = ℕ} 0 1 = cc in omega arith)
+first_other_side nib (z ∷ zs) x y is =
+    let back : length (z ∷ zs) - 1 ≡ length zs = omega arith in
+    let same : ◌≡◌ {A = Segment × Segment} (z, last_of z zs) (x, y) = cc in
+    let all : take (length zs + 1) (z ∷ zs) ≡ z ∷ zs = take_all (length zs + 1) (z ∷ zs) (omega arith) in
+    ap (λ (l : List Segment). other_sides nib l) (sym all)
+    ∙ sides_last (other_side nib) (z ∷ zs) (length zs) (last_of z zs) refl (last_at z zs) refl
+    ∙ (λ i. other_side nib (same i).1 ∷ map (other_side nib) (reverse (take (sym back i) (z ∷ zs))))
 
-pub start_reached : (p o : OffsetSegment) (count : ℕ) (xs : List Segment) (F : Functions) {nib n : Nib} {back : OffsetSegment} → back ≡ last_side p (map (other_side n) (reverse (take count xs))) → nib ≡ n
-    → finish_events F nib back o ≡ past_back p o count xs F nib
-start_reached p o count xs F {nib = nib} last same =
-    ap (λ (x : OffsetSegment). finish_events F nib x o) (last ∙ ap (λ (m : Nib). last_side p (map (other_side m) (reverse (take count xs)))) (sym same))
+-- so a ring goes around them
+pub ring_found : (ring : OffsetSegment → List OffsetSegment → OffsetSegment → List OffsetSegment → List Event) (nib : Nib) (xs : List Segment) {x y : Segment} {o p : OffsetSegment} {found : Option (Segment × Segment)}
+    → found ≡ first_and_last xs → found ≡ Some (x, y) → o ≡ side nib x → p ≡ other_side nib y → ring o (sides_on nib xs) p (other_sides_on nib xs) ≡ around ring (sides nib xs) (other_sides nib xs)
+ring_found ring nib xs {x = x} {y = y} there is first back =
+    let at = sym there ∙ is in
+    λ i. around ring ((ap (λ (s : OffsetSegment). s ∷ sides_on nib xs) first ∙ sym (first_side nib xs x y at)) i) ((ap (λ (s : OffsetSegment). s ∷ other_sides_on nib xs) back ∙ sym (first_other_side nib xs x y at)) i)
+
+pub around_none : (ring : OffsetSegment → List OffsetSegment → OffsetSegment → List OffsetSegment → List Event) (nib : Nib) (xs : List Segment) → first_and_last xs ≡ None → around ring (sides nib xs) (other_sides nib xs) ≡ []
+around_none ring nib xs is = ap (λ (l : List Segment). around ring (sides nib l) (other_sides nib l)) (empty_row xs is)

@@ -3,3 +3,4 @@ pub mod Events
 pub mod Outliners
 pub mod Outlines
 pub mod Ranges
+pub mod Rings

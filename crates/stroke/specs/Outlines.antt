@@ -1,5 +1,5 @@
 -- The outline of a run, as events.
-use Rattle.std.specs.Prelude.{ℕ, Bool, true, false, not, ◌&&◌, cond, List, [], ◌∷◌, ◌++◌, map, reverse, take, drop, ◌==◌, Float}
+use Rattle.std.specs.Prelude.{Bool, true, false, not, ◌&&◌, cond, List, [], ◌∷◌, ◌++◌, map, reverse, ◌==◌, Float}
 use Rattle.std.specs.Float.Ieee.{neg, eq}
 use Rattle.numbers.specs.Arithmetic.{zero, one}
 use Rattle.maths.specs.Functions.{Functions}
@@ -159,10 +159,3 @@ ring_of false F nib o os p ps = open_ring F nib o os p ps
 -- the outline of a run: nothing where it has no segments
 abbrev pub outline : Functions → Nib → Bool → List Segment → List Event
 outline F nib closed xs = cond (is_lone_dot nib xs) (lone_dot F nib xs) (around (ring_of closed F nib) (sides nib xs) (other_sides nib xs))
-
--- An open run from its first side o and its first other side p: the sides forward, across, the other sides of the first count segments backward, and across.
-abbrev pub open_outline : Functions → Nib → OffsetSegment → OffsetSegment → ℕ → List Segment → List Event
-open_outline F nib o p count xs =
-    let there = map (side nib) (drop 1 xs) in
-    let back = map (other_side nib) (reverse (take count xs)) in
-    map sends (begin_commands o) ++ (forward F nib o there ++ (cross_events F nib (last_side o there) p ++ (backward F nib p back ++ finish_events F nib (last_side p back) o)))

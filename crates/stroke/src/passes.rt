@@ -1,6 +1,7 @@
 ghost use Rattle.std.specs.Prelude.{◌≡◌, ◌==◌, is_ok};
 ghost use Rattle.stroke.specs.Outliners.{Drew, Fits};
 ghost use Rattle.stroke.specs.Outlines.{one_forward, back_events, one_back};
+ghost use Rattle.stroke.specs.Rings.{one_there};
 
 use crate::outliner::Outliner;
 use maths::host::MathsHost;
@@ -44,5 +45,22 @@ impl<'a, S: Sink, K: MathsHost> Outliner<'a, S, K> {
     {
         self.join_back(o, p)?;
         self.emit(p.segment)
+    }
+
+    // A join and the side after it, on the way there.
+    pub(crate) fn go_there(
+        &mut self,
+        o: OffsetSegment,
+        p: OffsetSegment,
+        split: bool,
+    ) -> Result<(), Refused>
+        requires { Fits self.old (one_there split (K.functions self.old.host.now) self.old.nib o p) }
+        ensures { Drew S.meaning S.took K.asked self.old self.new (one_there split (K.functions self.old.host.now) self.old.nib o p) (is_ok result) }
+    {
+        if split {
+            self.go_back(o, p)
+        } else {
+            self.go_forward(o, p)
+        }
     }
 }

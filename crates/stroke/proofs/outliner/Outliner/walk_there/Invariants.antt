@@ -1,7 +1,8 @@
 use Rattle.std.proofs.Common.{◌≡◌, map, drop}
-use Rattle.stroke.specs.Outlines.{forward, side, last_side}
+use Rattle.stroke.specs.Outlines.{side, last_side}
+use Rattle.stroke.specs.Rings.{there}
 use Rattle.stroke.proofs.Drawn.{Leads}
-use Rattle.stroke.proofs.outliner.Outliner.walk_forward.Given as goal
+use Rattle.stroke.proofs.outliner.Outliner.walk_there.Given as goal
 
 -- what is left to draw, from here, ends as all of it does from the start
 abbrev pub invariant-loop-i : goal.invariant-loop-i
@@ -11,4 +12,4 @@ invariant-loop-i g l =
     let all = map (side l.fn.self.nib) (drop l.start row) in
     let left = map (side l.self.nib) (drop l.i row) in
     (last_side l.last left ≡ last_side l.fn.before all)
-    × Leads g.S.Sink.meaning g.S.Sink.took g.K.MathsHost.asked l.fn.self (forward (functions l.fn.self.host.now) l.fn.self.nib l.fn.before all) l.self (forward (functions l.self.host.now) l.self.nib l.last left)
+    × Leads g.S.Sink.meaning g.S.Sink.took g.K.MathsHost.asked l.fn.self (there l.split (functions l.fn.self.host.now) l.fn.self.nib l.fn.before all) l.self (there l.split (functions l.self.host.now) l.self.nib l.last left)

@@ -4,10 +4,10 @@ use Rattle.pen.specs.declared.nib.Nib.{Nib}
 use Rattle.stroke.specs.Outlines.{backward, one_back, other_side, last_side}
 use Rattle.stroke.proofs.Drawn.{starts, passes_on, ends_refused, ends_there, next_fits}
 use Rattle.stroke.proofs.Walking.{sides_back, backward_next, none_back, backward_none, refused_made, found_none}
-use Rattle.stroke.proofs.outliner.Outliner.walk_backward.Goals as goal
+use Rattle.stroke.proofs.outliner.Outliner.walk_back.Goals as goal
 
 pub loop-i-init : goal.loop-i-init
-loop-i-init g c = (refl, starts g.S.Sink.meaning g.S.Sink.took g.K.MathsHost.asked c.args.self.now _ c.requires.room)
+loop-i-init g c = simp (c.saturating_sub-i.ensures, c.len.ensures) (refl, starts g.S.Sink.meaning g.S.Sink.took g.K.MathsHost.asked c.args.self.now _ c.requires)
 
 pub go_back-requires : goal.go_back-requires
 go_back-requires g c =
@@ -47,7 +47,7 @@ loop-i-preserved-in-Some g c =
 
 pub loop-i-preserved : goal.loop-i-preserved
 loop-i-preserved g c =
-    absurd (omega (arith, found_none (g.R.Row.pieces c.args.row.now) (c.loop-i.i - 1) c.get.ensures c.in_default.is, c.loop-i.auto.i, c.requires.within, c.loop-i-test.true))
+    absurd (omega (arith, found_none (g.R.Row.pieces c.args.row.now) (c.loop-i.i - 1) c.get.ensures c.in_default.is, c.loop-i.auto.i, c.saturating_sub-i.ensures, c.loop-i-test.true))
 
 pub returns : goal.returns
 returns g c =
