@@ -1,3 +1,4 @@
+mod Collecting
 mod Contours
 mod Drawn
 mod Offsets

@@ -1,3 +1,4 @@
+pub mod Collecting
 pub mod Contours
 pub mod Events
 pub mod Outliners
