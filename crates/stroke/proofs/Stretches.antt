@@ -1,15 +1,18 @@
 -- The pieces of a dash, by place.
-use Rattle.std.proofs.Common.{◌≡◌, ℕ, zero, suc, ◌+◌, ◌-◌, ◌<◌, ◌≤◌, ◌==◌, cond, nat_lt, List, [], ◌∷◌, ◌++◌, length, take, drop, get_or, Some, None, Option, sym, refl, ap, ◌∙◌, arith, length-append, add-one, true, false, drop-drop}
+use Rattle.std.proofs.Common.{◌≡◌, ℕ, zero, suc, ◌+◌, ◌-◌, ◌<◌, ◌≤◌, ◌==◌, cond, List, [], ◌∷◌, ◌++◌, length, take, drop, get_or, Some, None, Option, sym, refl, ap, ◌∙◌, arith, length-append, add-one, true, false, drop-drop}
 use Rattle.std.specs.Prelude.{Float}
 use Rattle.std.specs.List.{slice_get}
 use Rattle.std.specs.Float.Ieee.{le}
-use Rattle.std.proofs.lemmas.Bool.{cond_both, eqb-true, eqb-false, ltb-true, ltb-false, ne_eqb, cond-true, cond-false}
-use Rattle.std.proofs.lemmas.List.{get_or-take, get_or-drop, get_or_append_left, get_or-append_right, length-drop, length-take-le}
-use Rattle.std.proofs.lemmas.Option.{slice_get_past, get_or_from_slice_get}
+use Rattle.std.proofs.lemmas.Bool.{cond_both, eqb-true, eqb-false, ne_eqb, cond-true, cond-false}
+use Rattle.std.proofs.lemmas.List.{get_or-take, get_or-drop, length-drop, length-take-le}
+use Rattle.std.proofs.lemmas.Option.{slice_get_within, slice_get_past, get_or_from_slice_get}
+use Rattle.std.proofs.Math.Seq.{drop-cons}
+use Rattle.maths.specs.Functions.{Functions}
+use Rattle.pen.specs.declared.nib.Nib.{Nib}
 use Rattle.numbers.specs.Arithmetic.{zero as zero_f, one}
 use Rattle.segments.specs.declared.segment.Segment.{Segment}
 use Rattle.segments.specs.Pieces.{segment_slice}
-use Rattle.stroke.specs.Ranges.{sliced, stretch, pieces}
+use Rattle.stroke.specs.Ranges.{sliced, stretch, pieces, dash_dot, is_dot, stretch_outline, range_outline}
 use Rattle.stroke.proofs.Walking.{found_none}
 
 pub length_sliced : (t0 t1 : Float) (ys : List Segment) → length (sliced t0 t1 ys) ≡ length ys
@@ -62,37 +65,36 @@ sliced_get t0 t1 ys n k d is within =
     (λ e. sliced_inner t0 t1 ys k d (let ne = eqb-false n (k + 1) e in omega (arith, is, ne)))
     ∙ ap (λ (b : Float). Some (segment_slice (get_or ys k d) b (cond (n == k + 1) t1 one))) (begins_at t0 k)
 
--- of the run written twice
-twice_get : (xs : List Segment) (j : ℕ) (d : Segment) → get_or (xs ++ xs) j d ≡ get_or xs (cond (nat_lt j (length xs)) j (j - length xs)) d
-twice_get xs j d = cond_both (nat_lt j (length xs)) j (j - length xs) (λ (i : ℕ). get_or (xs ++ xs) j d ≡ get_or xs i d)
-    (λ e. get_or_append_left xs xs d j (ltb-true j (length xs) e))
-    (λ e. get_or-append_right xs xs (length xs) j d refl (ltb-false j (length xs) e))
+-- a place of the run written twice
+get_first : (xs ys : List Segment) (i : ℕ) → i < length xs → slice_get xs i ≡ slice_get (xs ++ ys) i
+get_first [] ys i here = absurd (omega arith)
+get_first (x ∷ xs) ys zero here = refl
+get_first (x ∷ xs) ys (suc i) here = get_first xs ys i (omega arith)
 
--- and of a part of it
-part_get : (xs : List Segment) (from count k : ℕ) (d : Segment) → k < count → get_or (take count (drop from (xs ++ xs))) k d ≡ get_or xs (cond (nat_lt (from + k) (length xs)) (from + k) (from + k - length xs)) d
-part_get xs from count k d within = get_or-take count (drop from (xs ++ xs)) k d within ∙ get_or-drop from (xs ++ xs) k d ∙ twice_get xs (from + k) d
+get_again : (xs ys : List Segment) (i : ℕ) → length xs ≤ i → slice_get ys (i - length xs) ≡ slice_get (xs ++ ys) i
+get_again [] ys i past = ap (slice_get ys) (omega arith)
+get_again (x ∷ xs) ys zero past = absurd (omega arith)
+get_again (x ∷ xs) ys (suc i) past = ap (slice_get ys) (omega arith) ∙ get_again xs ys i (omega arith)
 
-abbrev at : List Segment → ℕ → ℕ → ℕ
-at xs from k = cond (nat_lt (from + k) (length xs)) (from + k) (from + k - length xs)
+pub twice_first : (xs : List Segment) (i : ℕ) {found : Option Segment} → i < length xs → found ≡ slice_get xs i → found ≡ slice_get (xs ++ xs) i
+twice_first xs i here there = there ∙ get_first xs xs i here
+
+pub twice_again : (xs : List Segment) (i n : ℕ) {found : Option Segment} → n ≡ length xs → n ≤ i → found ≡ slice_get xs (i - n) → found ≡ slice_get (xs ++ xs) i
+twice_again xs i n is past there = there ∙ ap (λ m. slice_get xs (i - m)) is ∙ get_again xs xs i (omega (arith, is))
 
 -- so the piece at a place of a stretch is that of the segment there
 pub stretch_get : (t0 t1 : Float) (xs : List Segment) (from count k : ℕ) (x : Segment) {found : Option Segment} → from + count ≤ length xs + length xs → k < count
-    → found ≡ slice_get xs (at xs from k) → found ≡ Some x
+    → found ≡ slice_get (xs ++ xs) (from + k) → found ≡ Some x
     → Some (segment_slice x (cond (k == 0) t0 zero_f) (cond (count == k + 1) t1 one)) ≡ slice_get (sliced t0 t1 (take count (drop from (xs ++ xs)))) k
 stretch_get t0 t1 xs from count k x fits within there is =
-    let got = part_get xs from count k x within ∙ get_or_from_slice_get xs (at xs from k) x x (sym there ∙ is) in
+    let got = get_or-take count (drop from (xs ++ xs)) k x within ∙ get_or-drop from (xs ++ xs) k x ∙ get_or_from_slice_get (xs ++ xs) (from + k) x x (sym there ∙ is) in
     ap (λ (y : Segment). Some (segment_slice y (cond (k == 0) t0 zero_f) (cond (count == k + 1) t1 one))) (sym got)
     ∙ sym (sliced_get t0 t1 (take count (drop from (xs ++ xs))) count k x (length_part xs from count fits) within)
 
 -- there is one
-at_within : (xs : List Segment) (from count k : ℕ) → from + count ≤ length xs + length xs → k < count → at xs from k < length xs
-at_within xs from count k fits within = cond_both (nat_lt (from + k) (length xs)) (from + k) (from + k - length xs) (λ (i : ℕ). i < length xs)
-    (λ e. ltb-true (from + k) (length xs) e)
-    (λ e. omega (arith, ltb-false (from + k) (length xs) e))
-
 pub stretch_found : {P : Type 0} (xs : List Segment) (from count k : ℕ) {found : Option Segment} → from + count ≤ length xs + length xs → k < count
-    → found ≡ slice_get xs (at xs from k) → found ≡ None → P
-stretch_found xs from count k fits within there is = absurd (let past = found_none xs (at xs from k) there is in omega (arith, at_within xs from count k fits within))
+    → found ≡ slice_get (xs ++ xs) (from + k) → found ≡ None → P
+stretch_found xs from count k fits within there is = absurd (let past = found_none (xs ++ xs) (from + k) there is in omega (arith, past, length-append xs xs))
 
 -- and past the last none
 pub stretch_past : (t0 t1 : Float) (xs : List Segment) (from count k : ℕ) → from + count ≤ length xs + length xs → count ≤ k → None ≡ slice_get (sliced t0 t1 (take count (drop from (xs ++ xs)))) k
@@ -123,3 +125,23 @@ pub pieces_from : (t0 t1 : Float) (xs : List Segment) (from to count : ℕ) → 
     → sliced t0 t1 (take count (drop from (xs ++ xs))) ≡ pieces t0 t1 (stretch xs from to)
 pieces_from t0 t1 xs from to count order before few =
     ap (sliced t0 t1) (part_of xs from to count (omega (arith, few))) ∙ sym (cond-false (le one t0) (sliced zero_f t1 (drop 1 (stretch xs from to))) (sliced t0 t1 (stretch xs from to)) before)
+
+-- a stretch begins with the segment at its first place
+stretch_first : (xs : List Segment) (from to : ℕ) (x : Segment) {found : Option Segment} → from ≤ to → found ≡ slice_get (xs ++ xs) from → found ≡ Some x
+    → stretch xs from to ≡ x ∷ take (to - from) (drop (suc from) (xs ++ xs))
+stretch_first xs from to x order there is =
+    let at = sym there ∙ is in
+    let long : to + 1 - from ≡ suc (to - from) = omega arith in
+    ap (λ n. take n (drop from (xs ++ xs))) long
+    ∙ ap (take (suc (to - from))) (drop-cons (xs ++ xs) from x (slice_get_within (xs ++ xs) from x at))
+    ∙ ap (λ (y : Segment). y ∷ take (to - from) (drop (suc from) (xs ++ xs))) (get_or_from_slice_get (xs ++ xs) from x x at)
+
+-- so a dash of length 0 is drawn there
+pub dot_there : (F : Functions) (nib : Nib) (xs : List Segment) (from to : ℕ) (t0 t1 : Float) (x : Segment) {found : Option Segment} → from ≤ to → is_dot from to t0 t1 ≡ true
+    → found ≡ slice_get (xs ++ xs) from → found ≡ Some x → dash_dot F nib t0 (x ∷ []) ≡ range_outline F nib xs from to t0 t1
+dot_there F nib xs from to t0 t1 x order dot there is =
+    sym (ap (dash_dot F nib t0) (stretch_first xs from to x order there is))
+    ∙ sym (cond-true (is_dot from to t0 t1) (dash_dot F nib t0 (stretch xs from to)) (stretch_outline F nib t0 t1 (stretch xs from to)) dot)
+
+pub dot_found : {P : Type 0} (xs : List Segment) (from to : ℕ) {found : Option Segment} → from ≤ to → to < length xs + length xs → found ≡ slice_get (xs ++ xs) from → found ≡ None → P
+dot_found xs from to order within there is = absurd (let past = found_none (xs ++ xs) from there is in omega (arith, past, length-append xs xs))

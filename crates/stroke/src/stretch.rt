@@ -1,4 +1,5 @@
-ghost use Rattle.std.specs.Prelude.{◌≡◌, ◌+◌, ◌-◌, ◌^◌, ◌<◌, ◌≤◌, ◌==◌, ◌++◌, length, take, drop, cond, nat_lt};
+ghost use Rattle.std.specs.Prelude.{◌≡◌, ◌+◌, ◌^◌, ◌<◌, ◌≤◌, ◌==◌, ◌++◌, length, take, drop, cond};
+ghost use Rattle.std.specs.List.{slice_get};
 ghost use Rattle.numbers.specs.Arithmetic.{zero, one};
 ghost use Rattle.segments.specs.Pieces.{segment_slice};
 ghost use Rattle.stroke.specs.Ranges.{sliced, stretch, pieces as dash_pieces};
@@ -9,6 +10,7 @@ use storage::storage::Storage;
 
 /// The pieces of a dash: so many places of the run written twice, the first from a time on and the last
 /// up to a time.
+#[derive(Drop)]
 pub(crate) struct Stretch<'b, B: Storage> {
     storage: &'b B,
     from: usize,
@@ -16,20 +18,19 @@ pub(crate) struct Stretch<'b, B: Storage> {
     t0: f32,
     t1: f32,
     ghost within: { from + count ≤ length (B.held storage.now) + length (B.held storage.now) },
+    ghost few: { from + count < 2 ^ 64 },
 }
 
-// The place in a run of n segments that a place of the run written twice stands for.
-fn place(n: usize, from: usize, k: usize) -> usize
-    requires { from + k < n + n }
-    ensures { result ≡ cond (nat_lt (from + k) n) (from + k) (from + k - n) }
+/// The segment at a place of the run written twice.
+#[tactic(auto, using(crate::proofs::Stretches::twice_first, crate::proofs::Stretches::twice_again))]
+pub(crate) fn twice_at<B: Storage>(storage: &B, place: usize) -> Option<Segment>
+    ensures { result ≡ slice_get (B.held storage.now ++ B.held storage.now) place }
 {
-    if from >= n {
-        from - n + k
-    } else if k < n - from {
-        from + k
-    } else {
-        k - (n - from)
+    let len = storage.len();
+    if place < len {
+        return storage.get(place);
     }
+    storage.get(place - len)
 }
 
 impl<'b, B: Storage> Stretch<'b, B> {
@@ -84,7 +85,7 @@ impl<'b, B: Storage> Row for Stretch<'b, B> {
         if k >= self.count {
             return None;
         }
-        let segment = self.storage.get(place(self.storage.len(), self.from, k))?;
+        let segment = twice_at(self.storage, self.from + k)?;
         Some(self.piece(segment, k))
     }
 }
