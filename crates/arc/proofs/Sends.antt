@@ -1,0 +1,70 @@
+-- Commands that are sent, one at a time.
+use Rattle.std.proofs.Common.{◌≡◌, ℕ, ◌+◌, ◌<◌, ◌≤◌, Bool, true, false, cond, not, List, [], ◌∷◌, length, get_or, drop, Ok, Err, Result, is_err, sym, refl, ap, ◌∙◌, subst, add-one, drop_of_length-le, drop-cons, arith, true≢false}
+use Rattle.std.proofs.lemmas.Bool.{cond-true, cond-false, cond_both}
+use Rattle.path.specs.declared.command.Command.{Command}
+use Rattle.sinks.specs.declared.sink.Refused.{Refused}
+use Rattle.sinks.specs.Meaning.{Meaning, takes, verdict, after}
+use Rattle.arcs.specs.Curves.{OneToFour}
+use Rattle.path.specs.declared.refusal.Refusal.{Refusal}
+use Rattle.path.specs.declared.refusal.Reason.TheVariants.{SinkRefused}
+use Rattle.arc.specs.Arcs.{Sending, sending, refused, sent_answer, Few}
+
+-- a verdict is a refusal where the sink does not take the command
+taken_unless : (b : Bool) (x : Refused) {r : Result (Unit {0}) Refused} {e : Bool} → r ≡ cond b (Ok tt) (Err x) → is_err r ≡ e → b ≡ not e
+taken_unless true x is was = ap not (sym (ap is_err is) ∙ was)
+taken_unless false x is was = ap not (sym (ap is_err is) ∙ was)
+
+module _ {S : Type 0} (meaning : S → Meaning) (took : S → Command → S) where
+  -- the next command, taken or not
+  next : (cs : List Command) (i : ℕ) (d : Command) (s : S) (n : ℕ) → i < length cs
+      → sending meaning took (drop i cs) s n ≡ cond (takes (meaning s) (get_or cs i d)) (sending meaning took (drop (i + 1) cs) (took s (get_or cs i d)) (n + 1)) (record { sink = s; sent = n; going = false })
+  unfolding sending
+  next cs i d s n h = rw (add-one, drop-cons cs i d) refl
+
+  pub none_left : (cs : List Command) (i : ℕ) (s : S) (n : ℕ) {all : Sending S} → length cs ≤ i → sending meaning took (drop i cs) s n ≡ all → record { sink = s; sent = n; going = true } ≡ all
+  unfolding sending
+  none_left cs i s n h left = sym (ap (λ l. sending meaning took l s n) (drop_of_length-le cs h)) ∙ left
+
+  pub stops : (cs : List Command) (i : ℕ) (d : Command) (s : S) (n : ℕ) {now : S} {r : Result (Unit {0}) Refused} {all : Sending S} → i < length cs
+      → r ≡ verdict (meaning s) (get_or cs i d) → is_err r ≡ true → now ≡ after meaning took s (get_or cs i d)
+      → sending meaning took (drop i cs) s n ≡ all → record { sink = now; sent = n; going = false } ≡ all
+  stops cs i d s n h is was after left =
+      let b = takes (meaning s) (get_or cs i d) in
+      let no : b ≡ false = taken_unless b (record {}) is was in
+      let stays = after ∙ cond-false b (took s (get_or cs i d)) s no in
+      (λ j. record { sink = stays j; sent = n; going = false }) ∙ sym (cond-false b _ _ no) ∙ sym (next cs i d s n h) ∙ left
+
+  pub goes_on : (cs : List Command) (i : ℕ) (d : Command) (s : S) (n : ℕ) {now : S} {r : Result (Unit {0}) Refused} {all : Sending S} → i < length cs
+      → r ≡ verdict (meaning s) (get_or cs i d) → is_err r ≡ false → now ≡ after meaning took s (get_or cs i d)
+      → sending meaning took (drop i cs) s n ≡ all → sending meaning took (drop (i + 1) cs) now (n + 1) ≡ all
+  goes_on cs i d s n h is was after left =
+      let b = takes (meaning s) (get_or cs i d) in
+      let yes : b ≡ true = taken_unless b (record {}) is was in
+      let takes_it = after ∙ cond-true b (took s (get_or cs i d)) s yes in
+      ap (λ x. sending meaning took (drop (i + 1) cs) x (n + 1)) takes_it ∙ sym (cond-true b _ _ yes) ∙ sym (next cs i d s n h) ∙ left
+
+  -- all that is sent where it goes on, and less where it stops
+  abbrev Sent : ℕ → List Command → Sending S → Type 0
+  Sent n cs d = (d.going ≡ true → d.sent ≡ n + length cs) × (d.going ≡ false → d.sent < n + length cs)
+
+  pub sent_all : (cs : List Command) (s : S) (n : ℕ) → Sent n cs (sending meaning took cs s n)
+  unfolding sending
+  sent_all [] s n = (λ _. omega arith, λ e. absurd (true≢false e))
+  sent_all (c ∷ cs) s n = cond_both (takes (meaning s) c) _ _ (Sent n (c ∷ cs))
+      (λ _. let k = sent_all cs (took s c) (n + 1) in (λ e. omega (arith, k.0 e), λ e. omega (arith, k.1 e)))
+      (λ _. (λ e. absurd (true≢false (sym e)), λ _. omega arith))
+
+  few_of : (point : Bool) (cs : List Command) (s : S) → OneToFour point cs → Few point (sent_answer (sending meaning took cs s 0))
+  few_of true cs s none =
+      let d = sending meaning took cs s 0 in
+      let k = sent_all cs s 0 in
+      let empty : length cs ≡ 0 = ap length none in
+      cond_both d.going (Ok d.sent) (Err (refused SinkRefused d.sent)) (Few true) (λ e. omega (arith, k.0 e, empty)) (λ e. omega (arith, k.1 e, empty))
+  few_of false cs s some =
+      let d = sending meaning took cs s 0 in
+      let k = sent_all cs s 0 in
+      cond_both d.going (Ok d.sent) (Err (refused SinkRefused d.sent)) (Few false) (λ e. (omega (arith, k.0 e, some.0), omega (arith, k.0 e, some.1))) (λ e. omega (arith, k.1 e, some.1))
+
+-- by the count of the commands
+pub few_sent : {S : Type 0} (meaning : S → Meaning) (took : S → Command → S) (point : Bool) (cs : List Command) (s : S) {row : List Command} {r : Result ℕ Refusal} → r ≡ sent_answer (sending meaning took cs s 0) → cs ≡ row → OneToFour point row → Few point r
+few_sent meaning took point cs s is same few = subst (Few point) (sym is) (few_of meaning took point cs s (subst (OneToFour point) (sym same) few))
