@@ -10,8 +10,8 @@ use Rattle.segments.specs.declared.segment.Segment.{Segment}
 use Rattle.pen.specs.declared.nib.Nib.{Nib}
 use Rattle.pen.specs.declared.offset.OffsetSegment.{OffsetSegment}
 use Rattle.stroke.specs.Events.{Event, sends}
-use Rattle.stroke.specs.Outlines.{turn_between, emitted, join_events, back_events, one_forward, one_back, forward, backward, side, other_side, sides, other_sides, around}
-use Rattle.stroke.specs.Rings.{one_there, there, last_of, first_and_last, sides_on, other_sides_on}
+use Rattle.stroke.specs.Outlines.{turn_between, emitted, join_events, back_events, one_forward, one_back, forward, backward, side, other_side, sides, other_sides, last_side, around, closed_ring}
+use Rattle.stroke.specs.Rings.{one_there, there, last_of, first_and_last, sides_on, other_sides_on, seamless_ring}
 
 -- the sides that are left from a place on
 pub sides_left : (f : Segment → OffsetSegment) (xs : List Segment) (i : ℕ) (x : Segment) {o : OffsetSegment} {found : Option Segment} → found ≡ slice_get xs i → found ≡ Some x → o ≡ f x
@@ -119,3 +119,35 @@ ring_found ring nib xs {x = x} {y = y} there is first back =
 
 pub around_none : (ring : OffsetSegment → List OffsetSegment → OffsetSegment → List OffsetSegment → List Event) (nib : Nib) (xs : List Segment) → first_and_last xs ≡ None → around ring (sides nib xs) (other_sides nib xs) ≡ []
 around_none ring nib xs is = ap (λ (l : List Segment). around ring (sides nib l) (other_sides nib l)) (empty_row xs is)
+
+-- where the sides end, and the other sides
+last_mapped : (f : Segment → OffsetSegment) (x : Segment) (xs : List Segment) → last_side (f x) (map f xs) ≡ f (last_of x xs)
+last_mapped f x [] = refl
+last_mapped f x (y ∷ ys) = last_mapped f y ys
+
+last_after : (f : Segment → OffsetSegment) (o : OffsetSegment) (ys : List Segment) (z : Segment) → last_side o (map f (ys ++ (z ∷ []))) ≡ f z
+last_after f o [] z = refl
+last_after f o (y ∷ ys) z = last_after f (f y) ys z
+
+sides_end : (nib : Nib) (xs : List Segment) (x y : Segment) → first_and_last xs ≡ Some (x, y) → last_side (side nib x) (sides_on nib xs) ≡ side nib y
+sides_end nib [] x y is = absurd (let z : ◌≡◌ {A = ℕ} 0 1 = cc in omega arith)
+sides_end nib (z ∷ zs) x y is =
+    let same : ◌≡◌ {A = Segment × Segment} (z, last_of z zs) (x, y) = cc in
+    ap (λ (s : Segment × Segment). last_side (side nib s.0) (map (side nib) zs)) (sym same) ∙ last_mapped (side nib) z zs ∙ ap (λ (s : Segment × Segment). side nib s.1) same
+
+other_sides_end : (nib : Nib) (xs : List Segment) (x y : Segment) → first_and_last xs ≡ Some (x, y) → last_side (other_side nib y) (other_sides_on nib xs) ≡ other_side nib x
+other_sides_end nib [] x y is = absurd (let z : ◌≡◌ {A = ℕ} 0 1 = cc in omega arith)
+other_sides_end nib (z ∷ zs) x y is =
+    let same : ◌≡◌ {A = Segment × Segment} (z, last_of z zs) (x, y) = cc in
+    let o = other_side nib y in
+    ap (last_side o) (sym (first_other_side nib (z ∷ zs) x y is)) ∙ ap (λ (l : List Segment). last_side o (map (other_side nib) l)) (reverse-append (z ∷ []) zs)
+    ∙ last_after (other_side nib) o (reverse zs) z ∙ ap (λ (s : Segment × Segment). other_side nib s.0) same
+
+pub closed_ring_found : (F : Functions) (nib : Nib) (xs : List Segment) {x y : Segment} {e b p : OffsetSegment} {found : Option (Segment × Segment)}
+    → found ≡ first_and_last xs → found ≡ Some (x, y) → e ≡ side nib y → b ≡ other_side nib x → p ≡ other_side nib y
+    → seamless_ring F nib e (sides nib xs) b p (other_sides_on nib xs) ≡ around (closed_ring F nib) (sides nib xs) (other_sides nib xs)
+closed_ring_found F nib xs {x = x} {y = y} there is end back first =
+    let at = sym there ∙ is in
+    let e = end ∙ sym (sides_end nib xs x y at) in
+    let b = back ∙ sym (other_sides_end nib xs x y at) in
+    (λ i. seamless_ring F nib (e i) (first_side nib xs x y at i) (b i) (first i) (other_sides_on nib xs)) ∙ ring_found (closed_ring F nib) nib xs there is refl refl

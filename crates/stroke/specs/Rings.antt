@@ -1,6 +1,7 @@
 -- The rings of an outline by their parts, as code goes round them.
 use Rattle.std.specs.Prelude.{◌-◌, Bool, true, false, List, [], ◌∷◌, ◌++◌, map, reverse, length, take, drop, Some, None, Option}
 use Rattle.maths.specs.Functions.{Functions}
+use Rattle.path.specs.declared.command.Command.TheVariants.{MoveTo, LineTo, Close}
 use Rattle.segments.specs.declared.segment.Segment.{Segment}
 use Rattle.pen.specs.declared.nib.Nib.{Nib}
 use Rattle.pen.specs.declared.offset.OffsetSegment.{OffsetSegment}
@@ -47,3 +48,23 @@ on_and_back split F nib o os p ps = there split F nib o os ++ over_and_back F ni
 -- the ring of an open run, or where it splits of a dash
 abbrev pub capped_ring : Bool → Functions → Nib → OffsetSegment → List OffsetSegment → OffsetSegment → List OffsetSegment → List Event
 capped_ring split F nib o os p ps = map sends (begin_commands o) ++ on_and_back split F nib o os p ps
+
+-- the last other sides of a closed run, and its end
+abbrev pub back_closed : Functions → Nib → OffsetSegment → List OffsetSegment → List Event
+back_closed F nib p ps = backward F nib p ps ++ (sends Close ∷ [])
+
+-- from the end of the other side b, where the way back begins and ends, to the side p
+abbrev pub turned : Functions → Nib → OffsetSegment → OffsetSegment → List Event
+turned F nib b p = sends (LineTo b.end) ∷ one_forward F nib b p
+
+-- all the way back
+abbrev pub turned_and_back : Functions → Nib → OffsetSegment → OffsetSegment → List OffsetSegment → List Event
+turned_and_back F nib b p ps = turned F nib b p ++ back_closed F nib p ps
+
+-- from the side e all round, and back
+abbrev pub round_and_back : Functions → Nib → OffsetSegment → List OffsetSegment → OffsetSegment → OffsetSegment → List OffsetSegment → List Event
+round_and_back F nib e os b p ps = forward F nib e os ++ turned_and_back F nib b p ps
+
+-- the ring of a closed run with the sides os, the last of them e, and the other sides p ∷ ps, the last of them b
+abbrev pub seamless_ring : Functions → Nib → OffsetSegment → List OffsetSegment → OffsetSegment → OffsetSegment → List OffsetSegment → List Event
+seamless_ring F nib e os b p ps = sends (MoveTo e.end) ∷ round_and_back F nib e os b p ps

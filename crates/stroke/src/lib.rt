@@ -2,6 +2,7 @@
 #![tactic(auto)]
 
 mod collect;
+mod closed;
 mod ends;
 mod outline;
 mod outliner;
