@@ -1,8 +1,8 @@
 //! Strokes: the outline of a run, drawn into any sink with any maths host.
 #![tactic(auto)]
 
-mod collect;
 mod closed;
+mod collect;
 mod ends;
 mod outline;
 mod outliner;
