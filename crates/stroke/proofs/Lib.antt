@@ -1,3 +1,4 @@
+mod Bounds
 mod Collecting
 mod Contours
 mod Drawn
