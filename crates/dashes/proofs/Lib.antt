@@ -1,3 +1,4 @@
 pub mod Joining
+pub mod Ranges
 pub mod Reaching
 pub mod Rooms

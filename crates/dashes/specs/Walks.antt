@@ -58,3 +58,14 @@ pub record Within (n : ℕ) (r : Range) : Type 0 where
   pub low : neg_ℤ (pos n) ≤ℤ r.start
   pub ordered : r.start ≤ℤ r.end
   pub high : r.end <ℤ pos n
+
+-- a dash that is given lies on the run
+abbrev pub GivesWithin : ℕ → DashOp → Type 0
+GivesWithin n (Emit r) = Within n r
+GivesWithin n Done = Unit {0}
+GivesWithin n Continue = Unit {0}
+GivesWithin n Stroke = Unit {0}
+
+-- every range of every walk of a dasher lies on its run, whatever the run and the number of steps are
+abbrev pub WalksWithin : Dasher → Type 0
+WalksWithin d = (xs : List Segment) (n : ℕ) → Each (Within (length xs)) (ranges (dash_walk n d xs))

@@ -53,14 +53,16 @@ impl Range {
 }
 
 impl<'a> Dasher<'a> {
-    ghost use Rattle.std.specs.Prelude.{ℕ, List};
-    ghost use Rattle.segments.specs.declared.segment.Segment.{Segment};
+    ghost use Rattle.std.specs.Prelude.{length};
     ghost use Rattle.dashes.specs.PatternValues.{values};
     ghost use Rattle.dashes.specs.Dashers.{begun, seeks, sought, next_of};
+    ghost use Rattle.dashes.specs.Walks.{GivesWithin, WalksWithin};
 
-    /// The walk before its first step, with the first dash of the pattern taken.
+    /// The walk before its first step, with the first dash of the pattern taken. Whatever run it walks,
+    /// every range that it gives lies on that run.
     pub fn init(closed: bool, pattern: Pattern<'a>) -> Dasher<'a>
-        ensures { result ≡ record { pattern = pattern.entry; walk = begun (values pattern.entry) closed } }
+        ensures walk { result ≡ record { pattern = pattern.entry; walk = begun (values pattern.entry) closed } }
+        ensures within { WalksWithin result }
     {
         Dasher {
             pattern,
@@ -82,10 +84,12 @@ impl<'a> Dasher<'a> {
         self.walk = self.walk.seek(self.pattern);
     }
 
-    /// One dash or gap more along the run that the storage holds.
+    /// One dash or gap more along the run that the storage holds. A walk that stands on no segment of it
+    /// is over.
     pub fn next<B: Storage>(&mut self, storage: &B) -> DashOp
         ensures op { result ≡ (next_of (values self.old.pattern) (B.held storage.now) self.old.walk).op }
         ensures after { self.new ≡ record { pattern = self.old.pattern; walk = (next_of (values self.old.pattern) (B.held storage.now) self.old.walk).after } }
+        ensures within { GivesWithin (length (B.held storage.now)) result }
     {
         let next = self.walk.next(self.pattern, storage);
         self.walk = next.after;
