@@ -1,5 +1,5 @@
 -- A dash goes on over gaps of 0, one at a time.
-use Rattle.std.proofs.Common.{◌≡◌, ℕ, zero, suc, ◌+◌, ◌-◌, ◌<◌, ◌≤◌, Bool, true, false, List, length, refl, ap, ◌∙◌, subst, arith, Float}
+use Rattle.std.proofs.Common.{◌≡◌, ℕ, suc, ◌+◌, ◌-◌, ◌<◌, ◌≤◌, Bool, true, false, List, refl, ap, ◌∙◌, arith, Float}
 use Rattle.numbers.specs.Arithmetic.{◌⊕◌}
 use Rattle.dashes.specs.Patterns.{joined_over, following, length_at, empty_after}
 

@@ -1,4 +1,6 @@
+pub mod Digits
 pub mod Joining
 pub mod Ranges
 pub mod Reaching
+pub mod Remainders
 pub mod Rooms

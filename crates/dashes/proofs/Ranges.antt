@@ -1,5 +1,5 @@
 -- Every range lies on its run.
-use Rattle.std.proofs.Common.{◌≡◌, ℕ, zero, suc, ◌<◌, ◌≤◌, ℤ, pos, neg_ℤ, ◌-ℤ◌, ◌≤ℤ◌, ◌<ℤ◌, Bool, true, false, not, ◌&&◌, cond, List, [], ◌∷◌, length, refl, arith}
+use Rattle.std.proofs.Common.{◌≡◌, ℕ, zero, suc, ◌<◌, ◌≤◌, pos, neg_ℤ, ◌-ℤ◌, ◌≤ℤ◌, Bool, true, false, not, ◌&&◌, cond, List, length, refl, arith}
 use Rattle.std.proofs.lemmas.Int.{ints}
 use Rattle.std.proofs.lemmas.Bool.{cond_both}
 use Rattle.segments.specs.declared.segment.Segment.{Segment}
@@ -14,7 +14,7 @@ use Rattle.dashes.specs.declared.dasher.walk.Walk.{Walk}
 use Rattle.dashes.specs.Dashers.{goes_on, advanced, reach_of, taken_by, span_of, course_of, drawn, op_of, one_taken, stays, next_of, seeks, sought}
 use Rattle.dashes.specs.Patterns.{Dashes, Taken}
 use Rattle.dashes.specs.Spans.{range_of}
-use Rattle.dashes.specs.Walks.{DashEvent, steps, emits, strokes, walking, seeking, ranges, Each, Within, GivesWithin}
+use Rattle.dashes.specs.Walks.{walking, seeking, ranges, Each, Within, GivesWithin}
 use Rattle.dashes.proofs.Reaching.{Spans, span_lies, reach_of_lies, advanced_stands, on_run}
 
 between : (wraps : Bool) (start end n : ℕ) → start < n → end < n → (wraps ≡ false → start ≤ end)

@@ -1,5 +1,5 @@
 -- The walk of a pattern along a run, one dash or gap after another.
-use Rattle.std.specs.Prelude.{ℕ, ◌+◌, ◌-◌, Bool, true, false, cond, not, ◌&&◌, List, length, nat_lt, nat_le, Float}
+use Rattle.std.specs.Prelude.{ℕ, ◌+◌, Bool, true, false, cond, not, ◌&&◌, List, length, nat_lt, nat_le, Float}
 use Rattle.std.specs.Float.Ieee.{lt, eq}
 use Rattle.numbers.specs.Arithmetic.{◌⊕◌, ◌⊖◌, zero, one}
 use Rattle.segments.specs.declared.segment.Segment.{Segment}

@@ -1,5 +1,5 @@
 -- Where dashes lie on a run.
-use Rattle.std.specs.Prelude.{ℕ, ◌+◌, ℤ, pos, ◌-ℤ◌, Bool, true, false, cond, not, ◌&&◌, List, [], ◌∷◌, drop, Float}
+use Rattle.std.specs.Prelude.{ℕ, ◌+◌, pos, ◌-ℤ◌, Bool, true, false, cond, not, ◌&&◌, List, [], ◌∷◌, drop, Float}
 use Rattle.std.specs.Float.Ieee.{le, eq}
 use Rattle.std.specs.Ordering.{int_eq}
 use Rattle.numbers.specs.Arithmetic.{◌⊕◌, ◌⊖◌, zero, one}

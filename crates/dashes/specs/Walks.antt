@@ -1,5 +1,5 @@
 -- A whole walk, step by step.
-use Rattle.std.specs.Prelude.{ℕ, zero, suc, Bool, true, false, List, [], ◌∷◌, length, ℤ, pos, neg_ℤ, ◌≤ℤ◌, ◌<ℤ◌}
+use Rattle.std.specs.Prelude.{ℕ, zero, suc, Bool, true, false, List, [], ◌∷◌, length, pos, neg_ℤ, ◌≤ℤ◌, ◌<ℤ◌}
 use Rattle.segments.specs.declared.segment.Segment.{Segment}
 use Rattle.dashes.specs.declared.dasher.DashOp.{DashOp}
 use Rattle.dashes.specs.declared.dasher.DashOp.TheVariants.{Done, Continue, Emit, Stroke}

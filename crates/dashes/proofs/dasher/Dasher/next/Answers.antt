@@ -1,4 +1,3 @@
-use Rattle.std.proofs.Common.{length}
 use Rattle.dashes.specs.PatternValues.{values}
 use Rattle.dashes.proofs.Ranges.{next_within}
 use Rattle.dashes.proofs.dasher.Dasher.next.Goals as goal

@@ -1,5 +1,4 @@
-use Rattle.std.proofs.Common.{◌≡◌, ◌+◌, ◌≤◌, true, false, drop, sym, ap, ◌∙◌, arith, length}
-use Rattle.dashes.specs.Spans.{further}
+use Rattle.std.proofs.Common.{false, sym, ◌∙◌, arith}
 use Rattle.dashes.proofs.Reaching.{goes_over, arrives_on, ends, found_none}
 use Rattle.dashes.proofs.dasher.reach.find_reach.Goals as goal
 use Rattle.dashes.proofs.dasher.reach.find_reach.Goals.{in-Some+else-last, in_default}

@@ -1,4 +1,4 @@
-use Rattle.std.proofs.Common.{◌<◌, length, sym, ◌∙◌}
+use Rattle.std.proofs.Common.{sym, ◌∙◌}
 use Rattle.dashes.proofs.Reaching.{reach_of_lies, stands_after}
 use Rattle.dashes.proofs.dasher.walk.Walk.next.Goals as goal
 

@@ -1,4 +1,3 @@
-use Rattle.std.proofs.Common.{◌<◌, length}
 use Rattle.dashes.specs.PatternValues.{values}
 use Rattle.dashes.proofs.Reaching.{span_ends}
 use Rattle.dashes.proofs.dasher.walk.Walk.walk.Goals as goal
