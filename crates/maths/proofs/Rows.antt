@@ -6,7 +6,7 @@ use Rattle.maths.specs.declared.host.Function.{Function}
 use Rattle.maths.specs.declared.host.Function.TheVariants.{Sine, Cosine, ArcCosine, Tangent, Power}
 use Rattle.maths.specs.declared.table.Row.{Row}
 use Rattle.maths.specs.Functions.{apply, gathered}
-use Rattle.maths.specs.Tables.{matches, answer_of, answered, looked_up, tabled}
+use Rattle.maths.specs.Tables.{matches, answer_of, answered, looked_up, by_rows}
 
 -- the five functions by their names
 gathered_apply : (g : Function → Float → Float) (f : Function) (x : Float) → g f x ≡ apply (gathered g) f x
@@ -25,5 +25,5 @@ found [] f x = refl
 found (r ∷ rs) f x = chosen (matches r f x) r f _ _ (found rs f x)
 
 -- a table answers by the first row that matches
-pub tabled_answer : (rs : List Row) (f : Function) (x : Float) → answered f (find (λ r. matches r f x) rs) ≡ apply (tabled rs) f x
+pub tabled_answer : (rs : List Row) (f : Function) (x : Float) → answered f (find (λ r. matches r f x) rs) ≡ apply (by_rows rs) f x
 tabled_answer rs f x = found rs f x ∙ gathered_apply (looked_up rs) f x

@@ -7,3 +7,4 @@ pub mod Series
 pub mod Tables
 pub mod Questions
 pub mod Angles
+pub mod Narrow

@@ -4,7 +4,7 @@ use Rattle.std.specs.Float.{nan, binary32}
 use Rattle.maths.specs.declared.host.Function.{Function}
 use Rattle.maths.specs.declared.host.Function.TheVariants.{Sine, Cosine, ArcCosine, Tangent, Power}
 use Rattle.maths.specs.declared.table.Row.{Row}
-use Rattle.maths.specs.Functions.{Functions, gathered, numbered, in_range}
+use Rattle.maths.specs.Functions.{Functions, gathered, restricted, numbered, in_range}
 
 -- A row is of the function and argument asked: bits that stand for the same number, 0 and -0 apart, every NaN pattern for the one NaN.
 abbrev pub matches : Row → Function → Float → Bool
@@ -31,5 +31,9 @@ abbrev pub looked_up : List Row → Function → Float → Float
 looked_up [] f x = nan
 looked_up (r ∷ rs) f x = cond (matches r f x) (answer_of r f) (looked_up rs f x)
 
+abbrev pub by_rows : List Row → Functions
+by_rows rs = gathered (looked_up rs)
+
+-- asked at f32 alone
 abbrev pub tabled : List Row → Functions
-tabled rs = gathered (looked_up rs)
+tabled rs = restricted (by_rows rs)

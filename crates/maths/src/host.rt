@@ -2,7 +2,7 @@ ghost use Rattle.std.specs.Prelude.{◌≡◌, [], ◌∷◌, Float, Some};
 ghost use Rattle.std.specs.Float.{nan};
 ghost use Rattle.maths.specs.declared.host.Function.{Function};
 ghost use Rattle.maths.specs.declared.host.Function.TheVariants.{Sine, Cosine, ArcCosine, Tangent, Power};
-ghost use Rattle.maths.specs.Functions.{Functions, apply, numbered, function_name, in_range, Angle, AlikeAreEqual};
+ghost use Rattle.maths.specs.Functions.{Functions, apply, numbered, function_name, in_range, Angle, restricted, AlikeAreEqual};
 
 use std::fmt;
 
@@ -65,7 +65,8 @@ fn alike_stands()
 /// A maths host answers five functions, and means them. A question may alter a host's notes and
 /// never its functions. An arc cosine is NaN or lies from 0 to 3.1415927.
 ///
-/// The functions are on floats with one NaN, so none of them tells one NaN from another.
+/// The functions are on floats with one NaN, so none of them tells one NaN from another. They are of
+/// `f32` alone, so hosts that answer alike on every `f32` have the same functions.
 ///
 /// What asks a host says what it answers and what the host is afterwards, each by a definition of its
 /// own, so a type has no fact of both to hold.
@@ -120,6 +121,9 @@ pub trait MathsHost {
     ghost same: { (s : Self) (f : Function) (x : Float) → functions (asked s f x) ≡ functions s };
 
     ghost ranged: { (s : Self) (x : Float) → Angle ((functions s).arc_cosine x) };
+
+    // the functions are of f32: at any other float they are NaN
+    ghost narrow: { (s : Self) → restricted (functions s) ≡ functions s };
 }
 
 /// 3.1415927, the greatest arc cosine.

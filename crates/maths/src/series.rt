@@ -1,6 +1,8 @@
 ghost use Rattle.std.specs.Prelude.{◌≡◌, refl, Float};
 ghost use Rattle.maths.specs.Series.{series_sine, series_cosine, series_tangent, series_arc, series_power, series, narrow, Special};
-ghost use Rattle.maths.specs.Angles.{kept_angle};
+ghost use Rattle.maths.specs.Angles.{kept_angle, restricted_angle};
+ghost use Rattle.maths.specs.Functions.{restricted};
+ghost use Rattle.maths.specs.Narrow.{again};
 
 use crate::host::{Function, MathsHost};
 use crate::series::circle::Quarters;
@@ -32,14 +34,17 @@ fn special_stands()
 {}
 
 impl MathsHost for SeriesHost {
-    ghost functions = { λ _. series };
+    ghost functions = { λ _. restricted series };
 
     ghost asked = { λ s _ _. s };
 
     ghost same = { λ s f x. refl };
 
-    ghost ranged = { λ s x. kept_angle _ };
+    ghost ranged = { λ s x. restricted_angle series x (kept_angle _) };
 
+    ghost narrow = { λ s. again series };
+
+    #[tactic(auto, using(crate::proofs::Alike::asked_within))]
     // A match, since a question names its function, as a row of a table does.
     fn ask(&mut self, f: Function, x: f32) -> f32 {
         match f {

@@ -2,8 +2,9 @@ ghost use Rattle.std.specs.Prelude.{◌≡◌, refl};
 ghost use Rattle.std.specs.List.{find};
 ghost use Rattle.maths.specs.declared.host.Function.TheVariants.{ArcCosine};
 ghost use Rattle.maths.specs.Functions.{apply};
-ghost use Rattle.maths.specs.Tables.{matches, lawful, answer_of, answered, tabled};
-ghost use Rattle.maths.specs.Angles.{looked_up_angle};
+ghost use Rattle.maths.specs.Tables.{matches, lawful, answer_of, answered, by_rows, tabled};
+ghost use Rattle.maths.specs.Angles.{looked_up_angle, restricted_angle};
+ghost use Rattle.maths.specs.Narrow.{again};
 
 use crate::host::{Function, MathsHost, in_range, not_a_number};
 use std::num::{f32_from_bits_with_nan, f32_to_bits_with_nan};
@@ -57,15 +58,18 @@ impl<'a> MathsHost for TableHost<'a> {
 
     ghost same = { λ s f x. refl };
 
-    ghost ranged = { λ s x. looked_up_angle s.rows.now x };
+    ghost ranged = { λ s x. restricted_angle (by_rows s.rows.now) x (looked_up_angle s.rows.now x) };
 
+    ghost narrow = { λ s. again (by_rows s.rows.now) };
+
+    #[tactic(auto, using(crate::proofs::Alike::asked_within))]
     fn ask(&mut self, f: Function, x: f32) -> f32 {
         looked_up(self.rows, f, x)
     }
 }
 
 fn looked_up(rows: &[Row], f: Function, x: f32) -> f32
-    ensures { result ≡ apply (tabled rows.now) f x }
+    ensures { result ≡ apply (by_rows rows.now) f x }
 {
     answered(f, first_match(rows, f, x))
 }
