@@ -151,3 +151,8 @@ closed_ring_found F nib xs {x = x} {y = y} there is end back first =
     let e = end ∙ sym (sides_end nib xs x y at) in
     let b = back ∙ sym (other_sides_end nib xs x y at) in
     (λ i. seamless_ring F nib (e i) (first_side nib xs x y at i) (b i) (first i) (other_sides_on nib xs)) ∙ ring_found (closed_ring F nib) nib xs there is refl refl
+
+-- a row without a first segment is empty
+pub none_first : (xs : List Segment) → slice_get xs 0 ≡ None → xs ≡ []
+none_first [] none = refl
+none_first (z ∷ zs) none = absurd (let y : ◌≡◌ {A = ℕ} 0 1 = cc in omega arith)

@@ -1,12 +1,16 @@
 -- The rings of an outline by their parts, as code goes round them.
 use Rattle.std.specs.Prelude.{◌-◌, Bool, true, false, List, [], ◌∷◌, ◌++◌, map, reverse, length, take, drop, Some, None, Option}
+use Rattle.std.specs.Float.Ieee.{neg}
+use Rattle.numbers.specs.Arithmetic.{zero, one}
 use Rattle.maths.specs.Functions.{Functions}
+use Rattle.path.specs.declared.geometry.Vector.{Vector}
+use Rattle.path.specs.Vectors.{vector, sum, difference, multiple}
 use Rattle.path.specs.declared.command.Command.TheVariants.{MoveTo, LineTo, Close}
 use Rattle.segments.specs.declared.segment.Segment.{Segment}
 use Rattle.pen.specs.declared.nib.Nib.{Nib}
 use Rattle.pen.specs.declared.offset.OffsetSegment.{OffsetSegment}
 use Rattle.stroke.specs.Events.{Event, sends}
-use Rattle.stroke.specs.Outlines.{side, other_side, last_side, begin_commands, one_forward, forward, one_back, backward, cross_events, finish_events}
+use Rattle.stroke.specs.Outlines.{side, other_side, last_side, begin_commands, one_forward, forward, one_back, backward, cross_events, finish_events, cap_events, across, spot}
 
 -- the last segment of a row that begins with x
 abbrev pub last_of : Segment → List Segment → Segment
@@ -68,3 +72,12 @@ round_and_back F nib e os b p ps = forward F nib e os ++ turned_and_back F nib b
 -- the ring of a closed run with the sides os, the last of them e, and the other sides p ∷ ps, the last of them b
 abbrev pub seamless_ring : Functions → Nib → OffsetSegment → List OffsetSegment → OffsetSegment → OffsetSegment → List OffsetSegment → List Event
 seamless_ring F nib e os b p ps = sends (MoveTo e.end) ∷ round_and_back F nib e os b p ps
+
+-- the two caps of a spot, and the spot around a point on a vertical line
+abbrev pub two_caps : Functions → Nib → Vector → Vector → Vector → List Event
+two_caps F nib p q n = cap_events F nib.end_cap nib.radius (across p q n) ++ cap_events F nib.start_cap nib.radius (across q p (multiple n (neg one)))
+
+abbrev pub dot_on : Functions → Nib → Vector → List Event
+dot_on F nib x =
+    let up = vector zero one in
+    spot F nib (sum x (multiple up nib.radius)) (difference x (multiple up nib.radius)) up

@@ -3,6 +3,7 @@
 
 mod closed;
 mod collect;
+mod dots;
 mod ends;
 mod outline;
 mod outliner;
@@ -10,4 +11,5 @@ mod parts;
 mod passes;
 mod row;
 mod stretch;
+mod strokes;
 mod walks;
