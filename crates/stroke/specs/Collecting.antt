@@ -1,11 +1,18 @@
 -- What collecting a run does with what a cursor gives: to a storage, to a host, and what it leaves.
 use Rattle.std.specs.Prelude.{ℕ, Bool, cond, List, [], ◌∷◌, Some, None, Option, Ok, Err, Result, Float}
 use Rattle.maths.specs.declared.host.Function.{Function}
+use Rattle.maths.specs.Questions.{Question}
 use Rattle.segments.specs.declared.segment.Segment.{Segment}
 use Rattle.segments.specs.declared.segment.Segment.TheVariants.{Line, Curve, End}
 use Rattle.lent.specs.declared.Full.{Full}
 use Rattle.storage.specs.Meaning.{room}
 use Rattle.cursor.specs.Drawings.{Event, asks, gives}
+
+-- of a segment that is an end, whether it closes its run
+abbrev pub end_of : Segment → Option Bool
+end_of (Line i l) = None
+end_of (Curve i c) = None
+end_of (End closed) = Some closed
 
 -- The storage and the host after it, the answer, and what is still to be given. The answer of a run
 -- that an end ended is whether it was closed; that of one that the commands ended is none.
@@ -27,3 +34,35 @@ module _ {B K : Type 0} (held : B → List Segment) (capacity : B → ℕ) (push
   gather b k (gives (End closed) ∷ es) = collected b k (Ok (Some closed)) es
   gather b k (gives (Line i l) ∷ es) = cond (room (held b) (capacity b)) (gather (pushed b (Line i l)) k es) (collected b k (Err (record {})) es)
   gather b k (gives (Curve i c) ∷ es) = cond (room (held b) (capacity b)) (gather (pushed b (Curve i c)) k es) (collected b k (Err (record {})) es)
+
+-- The first run of what is given: its segments,
+unfoldable pub first_run : List Event → List Segment
+first_run [] = []
+first_run (asks q ∷ es) = first_run es
+first_run (gives (End closed) ∷ es) = []
+first_run (gives (Line i l) ∷ es) = Line i l ∷ first_run es
+first_run (gives (Curve i c) ∷ es) = Curve i c ∷ first_run es
+
+-- whether the end that ends it closes it, none where no end does,
+unfoldable pub first_end : List Event → Option Bool
+first_end [] = None
+first_end (asks q ∷ es) = first_end es
+first_end (gives (End closed) ∷ es) = Some closed
+first_end (gives (Line i l) ∷ es) = first_end es
+first_end (gives (Curve i c) ∷ es) = first_end es
+
+-- the questions before its end,
+unfoldable pub first_questions : List Event → List Question
+first_questions [] = []
+first_questions (asks q ∷ es) = q ∷ first_questions es
+first_questions (gives (End closed) ∷ es) = []
+first_questions (gives (Line i l) ∷ es) = first_questions es
+first_questions (gives (Curve i c) ∷ es) = first_questions es
+
+-- and what follows it
+unfoldable pub after_run : List Event → List Event
+after_run [] = []
+after_run (asks q ∷ es) = after_run es
+after_run (gives (End closed) ∷ es) = es
+after_run (gives (Line i l) ∷ es) = after_run es
+after_run (gives (Curve i c) ∷ es) = after_run es

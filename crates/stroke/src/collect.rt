@@ -2,7 +2,7 @@ ghost use Rattle.std.specs.Prelude.{◌≡◌, ◌<◌, Bool, Ok, Some};
 ghost use Rattle.cursor.specs.Cursors.{seen, rest};
 ghost use Rattle.cursor.specs.Giving.{left};
 ghost use Rattle.cursor.specs.Drawings.{still};
-ghost use Rattle.stroke.specs.Collecting.{collected, gather};
+ghost use Rattle.stroke.specs.Collecting.{end_of, collected, gather};
 
 use cursor::cursor::Segments;
 use lent::Full;
@@ -10,6 +10,16 @@ use maths::host::MathsHost;
 use path::command::Command;
 use segments::segment::Segment;
 use storage::storage::Storage;
+
+// Of a segment that is an end, whether it closes its run.
+fn end_of(segment: Segment) -> Option<bool>
+    ensures { result ≡ end_of segment }
+{
+    match segment {
+        Segment::End(closed) => Some(closed),
+        Segment::Line(..) | Segment::Curve(..) => None,
+    }
+}
 
 // The next run of segments into a storage, which is cleared first: whether the end that ended it
 // closed it, none where the commands ended it.
@@ -25,7 +35,7 @@ pub(crate) fn collect<B: Storage, K: MathsHost>(
 {
     storage.clear();
     while let Some(segment) = cursor.next(commands, host) {
-        if let Segment::End(closed) = segment {
+        if let Some(closed) = end_of(segment) {
             return Ok(Some(closed));
         }
         storage.push(segment)?;
