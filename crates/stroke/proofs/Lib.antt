@@ -1,3 +1,4 @@
+mod Blocks
 mod Bounds
 mod Collecting
 mod Contours

@@ -1,5 +1,5 @@
 -- What is sent for a run or a dash: contours, in which the offsets of the segments stand in order.
-use Rattle.std.specs.Prelude.{◌≡◌, ℕ, ◌*◌, ◌<◌, Bool, true, false, List, [], ◌∷◌, ◌++◌, map, length, Some, None, Option}
+use Rattle.std.specs.Prelude.{◌≡◌, ℕ, ◌*◌, ◌<◌, Bool, true, false, List, [], ◌∷◌, ◌++◌, map, flat_map, length, Some, None, Option}
 use Rattle.std.specs.List.{slice_get}
 use Rattle.maths.specs.Functions.{Functions}
 use Rattle.path.specs.declared.command.Command.{Command}
@@ -9,8 +9,10 @@ use Rattle.segments.specs.declared.segment.Segment.{Segment}
 use Rattle.segments.specs.declared.segment.Segment.TheVariants.{Line, Curve, End}
 use Rattle.pen.specs.declared.nib.Nib.{Nib}
 use Rattle.pen.specs.declared.offset.OffsetSegment.{OffsetSegment}
+use Rattle.cursor.specs.Drawings.{Run}
+use Rattle.cursor.specs.Laws.{Each}
 use Rattle.stroke.specs.Events.{Event, asks, sends}
-use Rattle.stroke.specs.Outlines.{sides, other_sides, is_lone_dot, lone_dot}
+use Rattle.stroke.specs.Outlines.{sides, other_sides, is_lone_dot, lone_dot, outline}
 
 -- the commands sent, in order
 unfoldable pub row : List Event → List Command
@@ -78,3 +80,23 @@ DotOrContour false F nib xs cs = RunContour nib xs cs
 abbrev pub RunDrawn : Functions → Nib → List Segment → List Command → Type 0
 RunDrawn F nib [] cs = cs ≡ []
 RunDrawn F nib (x ∷ xs) cs = DotOrContour (is_lone_dot nib (x ∷ xs)) F nib (x ∷ xs) cs
+
+-- the outlines of runs, one after the other
+abbrev pub outlines : Functions → Nib → List Run → List Event
+outlines F nib rs = flat_map (λ r. outline F nib r.closed r.segments) rs
+
+-- What a plain stroke sends for runs: what it sends for each, one after the other.
+abbrev pub RunsDrawn : Functions → Nib → List Run → List Command → Type 0
+RunsDrawn F nib [] cs = cs ≡ []
+RunsDrawn F nib (r ∷ rs) cs = (first : List Command) × (rest : List Command) × (cs ≡ first ++ rest) × RunDrawn F nib r.segments first × RunsDrawn F nib rs rest
+
+-- Lists of this kind, one after the other, and nothing else.
+pub record Blocks (P : List Command → Type 0) (cs : List Command) : Type 0 where
+  pub blocks : List (List Command)
+  pub joined : cs ≡ flat_map (λ b. b) blocks
+  pub each : Each P blocks
+
+-- What the strokes of these runs, dashed or not, add to a list that takes each command by an image: a contour, or the lone dot of one of the runs.
+pub data Block (F : Functions) (nib : Nib) (rs : List Run) (image : Command → Command) (cs : List Command) : Type 0 where
+  contour : Contour cs → Block F nib rs image cs
+  dot : (i : ℕ) (r : Run) → slice_get rs i ≡ Some r → is_lone_dot nib r.segments ≡ true → cs ≡ map image (row (lone_dot F nib r.segments)) → Block F nib rs image cs
