@@ -12,6 +12,8 @@ mod listings;
 #[cfg(test)]
 mod lists;
 #[cfg(test)]
+mod lone_arcs;
+#[cfg(test)]
 mod piles;
 #[cfg(test)]
 mod roots;
