@@ -188,8 +188,11 @@ around_few ring (o ∷ os) [] h = omega arith
 around_few ring (o ∷ os) (p ∷ ps) h = omega (arith, h o os p ps)
 
 run_few : (ring : OffsetSegment → List OffsetSegment → OffsetSegment → List OffsetSegment → List Event) (nib : Nib) (xs : List Segment) → ((o : OffsetSegment) (os : List OffsetSegment) (p : OffsetSegment) (ps : List OffsetSegment) → length (ring o os p ps) ≤ 26 * (length os + length ps) + 55)
-    → length (around ring (sides nib xs) (other_sides nib xs)) ≤ 52 * length xs + 3
-run_few ring nib xs h = omega (arith, around_few ring (sides nib xs) (other_sides nib xs) h, length-map xs (side nib), length-map (reverse xs) (other_side nib), length-reverse xs)
+    → length (around ring (sides nib xs) (other_sides nib xs)) ≤ 55 * length xs
+run_few ring nib [] h = omega arith
+run_few ring nib (x ∷ xs) h =
+    let ys = x ∷ xs in
+    omega (arith, around_few ring (sides nib ys) (other_sides nib ys) h, length-map ys (side nib), length-map (reverse ys) (other_side nib), length-reverse ys)
 
 -- dots
 two_caps : (e : Event) (es fs : List Event) → Few es → Few fs → length (e ∷ (es ++ fs)) ≤ 51
@@ -201,28 +204,28 @@ spot_few F nib p q n =
     let back = across q p (multiple n (neg one)) in
     two_caps (sends (MoveTo p)) (cap_events F nib.end_cap nib.radius there) (cap_events F nib.start_cap nib.radius back) (cap_few F nib.end_cap nib.radius there) (cap_few F nib.start_cap nib.radius back)
 
-and_close : (es : List Event) (k : ℕ) → length es ≤ 51 → length (es ++ (sends Close ∷ [])) ≤ 52 * suc k + 3
+and_close : (es : List Event) (k : ℕ) → length es ≤ 51 → length (es ++ (sends Close ∷ [])) ≤ 55 * suc k
 and_close es k h = simp length-append (omega arith)
 
-at_most : (es : List Event) (k : ℕ) → length es ≤ 51 → length es ≤ 52 * suc k + 3
+at_most : (es : List Event) (k : ℕ) → length es ≤ 51 → length es ≤ 55 * suc k
 at_most es k h = omega arith
 
-spot_within : (F : Functions) (nib : Nib) (p q n : Vector) (k : ℕ) → length (spot F nib p q n) ≤ 52 * suc k + 3
+spot_within : (F : Functions) (nib : Nib) (p q n : Vector) (k : ℕ) → length (spot F nib p q n) ≤ 55 * suc k
 spot_within F nib p q n k = at_most (spot F nib p q n) k (spot_few F nib p q n)
 
-closed_spot : (F : Functions) (nib : Nib) (p q n : Vector) (k : ℕ) → length (spot F nib p q n ++ (sends Close ∷ [])) ≤ 52 * suc k + 3
+closed_spot : (F : Functions) (nib : Nib) (p q n : Vector) (k : ℕ) → length (spot F nib p q n ++ (sends Close ∷ [])) ≤ 55 * suc k
 closed_spot F nib p q n k = and_close (spot F nib p q n) k (spot_few F nib p q n)
 
-lone_dot_few : (F : Functions) (nib : Nib) (xs : List Segment) → length (lone_dot F nib xs) ≤ 52 * length xs + 3
+lone_dot_few : (F : Functions) (nib : Nib) (xs : List Segment) → length (lone_dot F nib xs) ≤ 55 * length xs
 lone_dot_few F nib [] = omega arith
 lone_dot_few F nib (x ∷ xs) =
     let up = vector zeroᶠ one in
     spot_within F nib (sum (first_point x) (multiple up nib.radius)) (difference (first_point x) (multiple up nib.radius)) up (length xs)
 
 -- For a plain stroke's run.
-pub outline_bound : (F : Functions) (nib : Nib) (closed : Bool) (xs : List Segment) → length (outline F nib closed xs) ≤ 52 * length xs + 3
+pub outline_bound : (F : Functions) (nib : Nib) (closed : Bool) (xs : List Segment) → length (outline F nib closed xs) ≤ 55 * length xs
 outline_bound F nib closed xs =
-    cond_both (is_lone_dot nib xs) (lone_dot F nib xs) (around (ring_of closed F nib) (sides nib xs) (other_sides nib xs)) (λ (es : List Event). length es ≤ 52 * length xs + 3) (λ _. lone_dot_few F nib xs) (λ _. run_few (ring_of closed F nib) nib xs (ring_few closed F nib))
+    cond_both (is_lone_dot nib xs) (lone_dot F nib xs) (around (ring_of closed F nib) (sides nib xs) (other_sides nib xs)) (λ (es : List Event). length es ≤ 55 * length xs) (λ _. lone_dot_few F nib xs) (λ _. run_few (ring_of closed F nib) nib xs (ring_few closed F nib))
 
 sliced_long : (t0 t1 : Float) (ys : List Segment) → length (sliced t0 t1 ys) ≤ length ys
 unfolding sliced
@@ -233,19 +236,19 @@ sliced_long t0 t1 (x ∷ y ∷ ys) = omega (arith, sliced_long zeroᶠ t1 (y ∷
 pieces_long : (t0 t1 : Float) (ys : List Segment) → length (pieces t0 t1 ys) ≤ length ys
 pieces_long t0 t1 ys = cond_both (le one t0) (sliced zeroᶠ t1 (drop 1 ys)) (sliced t0 t1 ys) (λ (zs : List Segment). length zs ≤ length ys) (λ _. omega (arith, sliced_long zeroᶠ t1 (drop 1 ys), length-drop 1 ys)) (λ _. sliced_long t0 t1 ys)
 
-dash_dot_few : (F : Functions) (nib : Nib) (t : Float) (ys : List Segment) → length (dash_dot F nib t ys) ≤ 52 * length ys + 3
+dash_dot_few : (F : Functions) (nib : Nib) (t : Float) (ys : List Segment) → length (dash_dot F nib t ys) ≤ 55 * length ys
 dash_dot_few F nib t [] = omega arith
-dash_dot_few F nib t (x ∷ ys) = cond_both (has_cap nib) (dot_around F nib (side nib (dot_slice x t))) [] (λ (es : List Event). length es ≤ 52 * suc (length ys) + 3)
+dash_dot_few F nib t (x ∷ ys) = cond_both (has_cap nib) (dot_around F nib (side nib (dot_slice x t))) [] (λ (es : List Event). length es ≤ 55 * suc (length ys))
     (λ _. let o = side nib (dot_slice x t) in closed_spot F nib o.start (difference o.start (multiple o.start_normal (two ⊗ nib.radius))) o.start_normal (length ys)) (λ _. omega arith)
 
-stretch_few : (F : Functions) (nib : Nib) (t0 t1 : Float) (ys : List Segment) → length (stretch_outline F nib t0 t1 ys) ≤ 52 * length ys + 3
+stretch_few : (F : Functions) (nib : Nib) (t0 t1 : Float) (ys : List Segment) → length (stretch_outline F nib t0 t1 ys) ≤ 55 * length ys
 stretch_few F nib t0 t1 ys = omega (arith, run_few (dash_ring F nib) nib (pieces t0 t1 ys) (dash_few F nib), pieces_long t0 t1 ys)
 
 -- For a dash.
-pub range_bound : (F : Functions) (nib : Nib) (xs : List Segment) (from to : ℕ) (t0 t1 : Float) → length (range_outline F nib xs from to t0 t1) ≤ 52 * length (stretch xs from to) + 3
+pub range_bound : (F : Functions) (nib : Nib) (xs : List Segment) (from to : ℕ) (t0 t1 : Float) → length (range_outline F nib xs from to t0 t1) ≤ 55 * length (stretch xs from to)
 range_bound F nib xs from to t0 t1 =
     let ys = stretch xs from to in
-    cond_both (is_dot from to t0 t1) (dash_dot F nib t0 ys) (stretch_outline F nib t0 t1 ys) (λ (es : List Event). length es ≤ 52 * length ys + 3) (λ _. dash_dot_few F nib t0 ys) (λ _. stretch_few F nib t0 t1 ys)
+    cond_both (is_dot from to t0 t1) (dash_dot F nib t0 ys) (stretch_outline F nib t0 t1 ys) (λ (es : List Event). length es ≤ 55 * length ys) (λ _. dash_dot_few F nib t0 ys) (λ _. stretch_few F nib t0 t1 ys)
 
 pub stretch_bound : (xs : List Segment) (from to : ℕ) → length (stretch xs from to) ≤ 2 * length xs
 stretch_bound xs from to = simp (length-take, length-drop, length-append) (omega arith)

@@ -46,7 +46,7 @@ Rising [] = Unit {0}
 Rising (p ∷ []) = Unit {0}
 Rising (p ∷ q ∷ ps) = (p < q) × Rising (q ∷ ps)
 
--- a line to the end of an offset line, or a curve with the last three points of an offset curve
+-- a line to the end of an offset line, or a curve with the last three points of an offset curve; an end has none
 abbrev pub command_of : Segment → Option Command
 command_of (Line i l) = Some (LineTo l.b)
 command_of (Curve i k) = Some (CurveTo k.b k.c k.d)
@@ -90,7 +90,7 @@ abbrev pub RunsDrawn : Functions → Nib → List Run → List Command → Type 
 RunsDrawn F nib [] cs = cs ≡ []
 RunsDrawn F nib (r ∷ rs) cs = (first : List Command) × (rest : List Command) × (cs ≡ first ++ rest) × RunDrawn F nib r.segments first × RunsDrawn F nib rs rest
 
--- Lists of this kind, one after the other, and nothing else.
+-- Blocks of one sort, one after the other, and nothing else.
 pub record Blocks (P : List Command → Type 0) (cs : List Command) : Type 0 where
   pub blocks : List (List Command)
   pub joined : cs ≡ flat_map (λ b. b) blocks
