@@ -1,7 +1,10 @@
 pub mod Collecting
 pub mod Contours
+pub mod Calls
 pub mod Events
+pub mod Histories
 pub mod Outliners
+pub mod Outcomes
 pub mod Outlines
 pub mod Ranges
 pub mod Rings

@@ -12,4 +12,5 @@ mod passes;
 mod row;
 mod stretch;
 mod strokes;
+mod tally;
 mod walks;
