@@ -1,8 +1,8 @@
 -- What collecting a run does, turn by turn.
-use Rattle.std.proofs.Common.{◌≡◌, ℕ, ◌+◌, ◌≤◌, Bool, true, false, cond, T, leb, List, [], ◌∷◌, ◌++◌, map, length, take, drop, is_ok, is_err, Some, None, Option, Ok, Err, Result, sym, refl, ap, ◌∙◌, subst, arith, append_assoc, append-nil, length-append, length-take}
+use Rattle.std.proofs.Common.{◌≡◌, ℕ, ◌+◌, ◌<◌, ◌≤◌, Bool, true, false, cond, T, leb, List, [], ◌∷◌, ◌++◌, map, length, take, drop, is_ok, is_err, Some, None, Option, Ok, Err, Result, sym, refl, ap, ◌∙◌, subst, arith, append_assoc, append-nil, length-append, length-take}
 use lib.Ieee.{Float}
-use Rattle.std.proofs.lemmas.Bool.{cond_both, cond-true, cond-false, ltb-true, ltb-false, le-leb, lt-leb}
-use Rattle.std.proofs.lemmas.List.{take_all, take-append-le}
+use Rattle.std.proofs.lemmas.Bool.{cond_both, cond-true, cond-false, ltb-true, ltb-false, leb-false, le-leb, lt-leb}
+use Rattle.std.proofs.lemmas.List.{take_all, take-append-le, length-take-le}
 use Rattle.std.specs.Option.{option_to_list}
 use Rattle.maths.specs.Functions.{Functions}
 use Rattle.maths.specs.Questions.{Question, all_asked}
@@ -152,6 +152,9 @@ first_few (gives (End b) ∷ es) = omega arith
 first_few (gives (Line i l) ∷ es) = omega (arith, first_few es)
 first_few (gives (Curve i c) ∷ es) = omega (arith, first_few es)
 
+same_end : {a b : Option Bool} → ◌≡◌ {A = Result (Option Bool) Full} (Ok a) (Ok b) → a ≡ b
+same_end is = cc is
+
 -- All of the first run in a storage that was cleared.
 pub record CollectsAll {B K : Type 0} (held : B → List Segment) (asked : K → Function → Float → K) (k : K) (es : List Event) (c : Collected B K) : Type 0 where
   pub stored : held c.storage ≡ first_run es
@@ -273,3 +276,25 @@ module _ {B K : Type 0} (held : B → List Segment) (capacity : B → ℕ) (push
           taken = λ ok. let t = took_first (cleared b) k es ok in
               record { stored = t.stored ∙ ap (λ l. l ++ first_run es) none; answered = t.answered; asking = t.asking; rest = t.rest };
         }
+
+    pub collects_by : (b : B) (k : K) (es : List Event) {c : Collected B K} → c ≡ gather held capacity pushed asked (cleared b) k es → Collects b k es c
+    collects_by b k es is = subst (Collects b k es) (sym is) (collects b k es)
+
+    -- what is held is then the first run, and what is left has the others
+    pub run_ended : {b : B} {k : K} (es : List Event) (closed : Bool) {c : Collected B K} → Collects b k es c → c.answer ≡ Ok (Some closed) → runs (given_by es) ≡ run (held c.storage) closed ∷ runs (given_by c.left)
+    run_ended es closed got is =
+        let all = got.taken (ap is_ok is) in
+        first_ended es closed (same_end (sym all.answered ∙ is)) ∙ (λ i. run (sym all.stored i) closed ∷ runs (given_by (sym all.rest i)))
+
+    pub run_last : {b : B} {k : K} (es : List Event) {c : Collected B K} → Collects b k es c → c.answer ≡ Ok None → (runs (given_by es) ≡ run (held c.storage) false ∷ []) × (c.left ≡ [])
+    run_last es got is =
+        let all = got.taken (ap is_ok is) in
+        let last = first_only es (same_end (sym all.answered ∙ is)) in
+        (last.0 ∙ ap (λ xs. run xs false ∷ []) (sym all.stored), all.rest ∙ last.1)
+
+    -- refused: more segments than places, all of which are taken
+    pub run_refused : {b : B} {k : K} (es : List Event) {c : Collected B K} → Collects b k es c → is_err c.answer ≡ true → (capacity b < length (first_run es)) × (length (held c.storage) ≡ capacity b)
+    run_refused {b = b} es got refused =
+        let past : capacity b < length (first_run es) = cond_both (leb (length (first_run es)) (capacity b)) _ _ (λ (r : Result (Option Bool) Full). is_err r ≡ true → capacity b < length (first_run es))
+        (λ _ wrong. absurd cc) (λ e _. leb-false (length (first_run es)) (capacity b) e) (ap is_err (sym got.answered) ∙ refused) in
+        (past, ap length got.stored ∙ length-take-le (capacity b) (first_run es) (omega (arith, past)))

@@ -1,4 +1,5 @@
 use Rattle.std.proofs.Common.{sym, refl, ap, ◌∙◌, is_ok, is_err, arith}
+use Rattle.std.proofs.lemmas.Bool.{true≢false}
 use Rattle.stroke.proofs.Collecting.{asks_next, at_end, at_last, goes_on, at_refusal}
 use Rattle.stroke.proofs.collect.collect.Goals as goal
 
@@ -23,7 +24,7 @@ returns-in_err-push g c =
     record {
       whole = at_refusal g.B.Storage.held g.B.Storage.capacity g.B.Storage.pushed g.K.MathsHost.asked c.in-Some.segment c.from_residual.result given c.in-Some.is (sym c.end_of.ensures ∙ c.in_default-end_of.is) c.push.ensures.answer c.push.ensures.after (ap is_err c.in_err-push.was) c.from_residual.ensures.0;
       functions = given.same;
-      falls = λ closed ended. absurd (cc (ap is_err ended, c.from_residual.ensures.0));
+      falls = λ closed ended. absurd (true≢false (sym c.from_residual.ensures.0 ∙ ap is_err ended));
     }
 
 pub returns : goal.returns
