@@ -1,5 +1,5 @@
 -- The law of strokes: what is true of all the strokes ever made on one sink, whatever the sink, the storages and the hosts.
-use Rattle.std.specs.Prelude.{◌≡◌, ℕ, ◌+◌, true, ◌⊎◌, List, [], ◌∷◌, ◌++◌, map, take, drop, length, nat_lt, is_ok, None, Ok, Err, Result, filter, Float}
+use Rattle.std.specs.Prelude.{◌≡◌, ℕ, ◌+◌, true, List, [], ◌∷◌, ◌++◌, map, take, drop, length, is_ok, None, Ok, Err, Result, Float}
 use Rattle.maths.specs.Functions.{Functions, Alike, restricted}
 use Rattle.path.specs.declared.command.Command.{Command}
 use Rattle.path.specs.declared.refusal.Refusal.{Refusal}
@@ -13,8 +13,8 @@ use Rattle.pen.specs.Nibs.{nib_of}
 use Rattle.dashes.specs.declared.dasher.Range.{Range}
 use Rattle.dashes.specs.Patterns.{pattern_of}
 use Rattle.dashes.specs.Walks.{Within}
+use Rattle.stroke.specs.Contours.{Blocks, Block, RunsDrawn}
 use Rattle.stroke.specs.Events.{asks, sends}
-use Rattle.stroke.specs.Contours.{Contour, LoneDot, RunDrawn}
 use Rattle.stroke.specs.Calls.{Action, clears, stores, ends, steps, works_out, draws, stroke_actions}
 use Rattle.stroke.specs.Outcomes.{Outcome, stroked}
 use Rattle.stroke.specs.declared.tally.Tally.{Tally}
@@ -80,10 +80,6 @@ counts (c ∷ cs) = count c.answer + counts cs
 abbrev pub part : List Command → List Call → Call → List Command
 part list earlier c = take (count c.answer) (drop (counts earlier) list)
 
-abbrev pub concat : List (List Command) → List Command
-concat [] = []
-concat (r ∷ rs) = r ++ concat rs
-
 -- ---- what a call means
 
 abbrev pub nib_drawn : Call → Nib
@@ -92,9 +88,6 @@ nib_drawn c = nib_of c.style
 -- its runs: the segments that the cursor gives, divided by the ends
 abbrev pub runs_of : Call → List Run
 runs_of c = runs (given_by (drawn_whole c.functions true c.commands))
-
-abbrev pub non_empty : List Run → List Run
-non_empty rs = filter (λ (r : Run). nat_lt 0 (length r.segments)) rs
 
 abbrev pub actions_of : Call → List Action
 actions_of c = stroke_actions c.functions c.commands c.style c.dashes
@@ -135,34 +128,13 @@ row_of c = row_in (actions_of c)
 
 -- ---- the law
 
--- the lone dot of one of the call's runs, as it came into the list
-pub record DotOfRun (m : Meaning) (c : Call) (cs : List Command) : Type 0 where
-  pub before : List Run
-  pub run : Run
-  pub after : List Run
-  pub one : runs_of c ≡ before ++ (run ∷ after)
-  pub row : List Command
-  pub dot : LoneDot c.functions (nib_drawn c) run.segments row
-  pub mapped : cs ≡ map m.map row
+-- its contours, and the lone dots of its runs, one after the other and nothing else
+abbrev pub WholeContours : Meaning → Call → List Command → Type 0
+WholeContours m c cs = Blocks (Block c.functions (nib_drawn c) (runs_of c) m.map) cs
 
--- whole contours, one after the other, save lone dots
-pub record WholeContours (m : Meaning) (c : Call) (cs : List Command) : Type 0 where
-  pub pieces : List (List Command)
-  pub all : cs ≡ concat pieces
-  pub each : Each (λ p. Contour p ⊎ DotOfRun m c p) pieces
-
--- one row for each run, in order
-abbrev pub AllDrawn : Call → List Run → List (List Command) → Type 0
-AllDrawn c [] [] = Unit {0}
-AllDrawn c [] (p ∷ ps) = ⊥
-AllDrawn c (r ∷ rs) [] = ⊥
-AllDrawn c (r ∷ rs) (p ∷ ps) = RunDrawn c.functions (nib_drawn c) r.segments p × AllDrawn c rs ps
-
--- without a pattern: a contour or a lone dot for each run that is not empty
-pub record PlainRow (c : Call) : Type 0 where
-  pub pieces : List (List Command)
-  pub all : row_of c ≡ concat pieces
-  pub drawn : AllDrawn c (non_empty (runs_of c)) pieces
+-- without a pattern: for each run that is not empty its contour or lone dot, in order
+abbrev pub PlainRow : Call → Type 0
+PlainRow c = RunsDrawn c.functions (nib_drawn c) (runs_of c) (row_of c)
 
 -- an accepted call sent its row, and counted it and the steps
 pub record RowSent (m : Meaning) (earlier : List Call) (c : Call) : Type 0 where
