@@ -3,6 +3,7 @@
 
 mod closed;
 mod collect;
+mod dashes;
 mod dots;
 mod ends;
 mod outline;
