@@ -1,13 +1,14 @@
 -- Commands that are sent, one at a time.
-use Rattle.std.proofs.Common.{◌≡◌, ℕ, ◌+◌, ◌<◌, ◌≤◌, Bool, true, false, cond, not, List, [], ◌∷◌, length, get_or, drop, Ok, Err, Result, is_err, sym, refl, ap, ◌∙◌, subst, add-one, drop_of_length-le, drop-cons, arith, true≢false}
+use Rattle.std.proofs.Common.{◌≡◌, ℕ, ◌+◌, ◌<◌, ◌≤◌, Bool, true, false, cond, not, List, [], ◌∷◌, length, get_or, drop, take, map, ◌++◌, suc, T, append-nil, append_assoc, Ok, Err, Result, is_err, sym, refl, ap, ◌∙◌, subst, add-one, drop_of_length-le, drop-cons, arith, true≢false}
 use Rattle.std.proofs.lemmas.Bool.{cond-true, cond-false, cond_both}
+use Rattle.std.proofs.lemmas.Float.{T_from_true}
 use Rattle.path.specs.declared.command.Command.{Command}
 use Rattle.sinks.specs.declared.sink.Refused.{Refused}
-use Rattle.sinks.specs.Meaning.{Meaning, takes, verdict, after}
+use Rattle.sinks.specs.Meaning.{Meaning, takes, verdict, after, joined}
 use Rattle.arcs.specs.Curves.{OneToFour}
 use Rattle.path.specs.declared.refusal.Refusal.{Refusal}
-use Rattle.path.specs.declared.refusal.Reason.TheVariants.{SinkRefused}
-use Rattle.arc.specs.Arcs.{Sending, sending, refused, sent_answer, Few}
+use Rattle.path.specs.declared.refusal.Reason.TheVariants.{SinkRefused, ZeroRadius}
+use Rattle.arc.specs.Arcs.{Sending, sending, refused, sent_answer, taken, Few, Joined}
 
 -- a verdict is a refusal where the sink does not take the command
 taken_unless : (b : Bool) (x : Refused) {r : Result (Unit {0}) Refused} {e : Bool} → r ≡ cond b (Ok tt) (Err x) → is_err r ≡ e → b ≡ not e
@@ -68,3 +69,29 @@ module _ {S : Type 0} (meaning : S → Meaning) (took : S → Command → S) whe
 -- by the count of the commands
 pub few_sent : {S : Type 0} (meaning : S → Meaning) (took : S → Command → S) (point : Bool) (cs : List Command) (s : S) {row : List Command} {r : Result ℕ Refusal} → r ≡ sent_answer (sending meaning took cs s 0) → cs ≡ row → OneToFour point row → Few point r
 few_sent meaning took point cs s is same few = subst (Few point) (sym is) (few_of meaning took point cs s (subst (OneToFour point) (sym same) few))
+
+module _ {S : Type 0} (meaning : S → Meaning) (took : S → Command → S) (grows : (s : S) (c : Command) → T (takes (meaning s) c) → meaning (took s c) ≡ joined (meaning s) c) where
+  -- some commands more are taken, and they join the list
+  abbrev More : ℕ → List Command → S → Sending S → Type 0
+  More n cs s d = (k : ℕ) × (d.sent ≡ n + k) × ((meaning d.sink).list ≡ (meaning s).list ++ map (meaning s).map (take k cs))
+
+  more : (cs : List Command) (s : S) (n : ℕ) → More n cs s (sending meaning took cs s n)
+  unfolding sending
+  more [] s n = (0, omega arith, sym (append-nil (meaning s).list))
+  more (c ∷ cs) s n = cond_both (takes (meaning s) c) _ _ (More n (c ∷ cs) s)
+      (λ e. let k = more cs (took s c) (n + 1) in
+      (suc k.0, omega (arith, k.1), k.2 ∙ ap (λ (m : Meaning). m.list ++ map m.map (take k.0 cs)) (grows s c (T_from_true _ e)) ∙ append_assoc (meaning s).list ((meaning s).map c ∷ []) (map (meaning s).map (take k.0 cs))))
+      (λ _. (0, omega arith, sym (append-nil (meaning s).list)))
+
+taken_is : {S : Type 0} (d : Sending S) → taken (sent_answer d) ≡ d.sent
+taken_is d = cond_both d.going (Ok d.sent) (Err (refused SinkRefused d.sent)) (λ r. taken r ≡ d.sent) (λ _. refl) (λ _. refl)
+
+pub joined_sent : {S : Type 0} (meaning : S → Meaning) (took : S → Command → S) (grows : (s : S) (c : Command) → T (takes (meaning s) c) → meaning (took s c) ≡ joined (meaning s) c) (cs : List Command) (s : S)
+    {row : List Command} {r : Result ℕ Refusal} {now : S} → r ≡ sent_answer (sending meaning took cs s 0) → cs ≡ row → now ≡ (sending meaning took cs s 0).sink → Joined (meaning s) r row (meaning now)
+joined_sent meaning took grows cs s {row = row} {r = r} {now = now} is same there =
+    let k = more meaning took grows cs s 0 in
+    let count : k.0 ≡ taken r = omega (arith, k.1, taken_is (sending meaning took cs s 0), ap taken is) in
+    ap (λ x. (meaning x).list) there ∙ k.2 ∙ (λ i. (meaning s).list ++ map (meaning s).map (take (count i) (same i)))
+
+pub joined_none : (m : Meaning) (row : List Command) {r : Result ℕ Refusal} → r ≡ Err (refused ZeroRadius 0) → Joined m r row m
+joined_none m row is = sym (append-nil m.list) ∙ ap (λ k. m.list ++ map m.map (take k row)) (sym (ap taken is))

@@ -1,5 +1,5 @@
 -- An arc by itself: its curves, sent one after the other.
-use Rattle.std.specs.Prelude.{◌≡◌, ℕ, ◌+◌, ◌≤◌, Bool, true, false, cond, ◌||◌, List, [], ◌∷◌, Ok, Err, Result, Float}
+use Rattle.std.specs.Prelude.{◌≡◌, ℕ, ◌+◌, ◌≤◌, Bool, true, false, cond, ◌||◌, List, [], ◌∷◌, ◌++◌, map, take, Ok, Err, Result, Float}
 use Rattle.std.specs.Float.Ieee.{eq}
 use Rattle.numbers.specs.Arithmetic.{zero}
 use Rattle.maths.specs.Functions.{Functions}
@@ -56,3 +56,12 @@ abbrev pub Few : Bool → Result ℕ Refusal → Type 0
 Few true (Ok n) = n ≡ 0
 Few false (Ok n) = (1 ≤ n) × (n ≤ 4)
 Few point (Err r) = r.sent ≤ 3
+
+-- how many curves the sink took
+abbrev pub taken : Result ℕ Refusal → ℕ
+taken (Ok n) = n
+taken (Err r) = r.sent
+
+-- that many of the curves, from the first on, joined the sink's list, each through its map
+abbrev pub Joined : Meaning → Result ℕ Refusal → List Command → Meaning → Type 0
+Joined before answer curves now = now.list ≡ before.list ++ map before.map (take (taken answer) curves)
