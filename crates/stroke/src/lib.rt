@@ -3,7 +3,7 @@
 
 mod closed;
 mod collect;
-mod dashes;
+mod dash;
 mod dots;
 mod ends;
 mod outline;
