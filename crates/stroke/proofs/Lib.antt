@@ -5,6 +5,7 @@ mod Contours
 mod Drawn
 mod Offsets
 mod Playing
+mod Rows
 mod Stretches
 mod Two
 mod Walking
