@@ -48,4 +48,5 @@ item_text i = letter i ∷ spaced (fields i)
 abbrev pub line_text : Line → List ℕ
 line_text (line.Item i) = item_text i
 line_text (line.Held commands dashes) = codes "=" ++ spaced (decimal commands ∷ decimal dashes ∷ [])
+line_text (line.Drawn sent steps) = codes "=" ++ spaced (decimal sent ∷ decimal steps ∷ [])
 line_text (line.Refused r) = codes "!" ++ spaced (decimal (number_of r.reason) ∷ decimal r.place ∷ decimal r.sent ∷ [])

@@ -15,6 +15,8 @@ pub enum Line {
     Item(Item),
     /// How many commands and dashes a job holds.
     Held { commands: usize, dashes: usize },
+    /// How many commands a stroke sent, and how many dash steps it took.
+    Drawn { sent: u64, steps: u32 },
     /// A refusal.
     Refused(Refusal),
 }
@@ -26,6 +28,7 @@ impl fmt::Display for Line {
         match *self {
             Line::Item(item) => write_item(item, f),
             Line::Held { commands, dashes } => write!(f, "= {commands} {dashes}"),
+            Line::Drawn { sent, steps } => write!(f, "= {sent} {steps}"),
             Line::Refused(r) => write!(f, "! {} {} {}", u8::from(r.reason), r.place, r.sent),
         }
     }
