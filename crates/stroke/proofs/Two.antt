@@ -9,11 +9,7 @@ use Rattle.sinks.specs.Meaning.{Meaning}
 use Rattle.stroke.specs.declared.outliner.Outliner.{Outliner}
 use Rattle.stroke.specs.Events.{Event}
 use Rattle.stroke.specs.Outliners.{Fits, Drew}
-use Rattle.stroke.proofs.Playing.{part_fits}
-use Rattle.stroke.proofs.Drawn.{starts, passes_on, ends_refused, ends_with}
-
-pub first_fits : {S K : Type 0} (a : Outliner S K) (es fs : List Event) → Fits a (es ++ fs) → Fits a es
-first_fits a es fs fits = part_fits es fs a.sent _ refl fits
+use Rattle.stroke.proofs.Drawn.{starts, goes_on, passes_on, ends_refused, ends_with}
 
 module _ {S K : Type 0} {meaning : S → Meaning} {took : S → Command → S} {asked : K → Function → Float → K} where
   pub first_refused : {X Y : Type 0} (r : Result X Y) (es fs : List Event) {a c : Outliner S K} → is_err r ≡ true → Fits a (es ++ fs) → Drew meaning took asked a c es false → Drew meaning took asked a c (es ++ fs) (is_ok r)
@@ -28,3 +24,10 @@ module _ {S K : Type 0} {meaning : S → Meaning} {took : S → Command → S} {
       {a b c : Outliner S K} {all : List Event} {going : Bool} → all ≡ es ++ rest (functions a.host.now) a.nib → Fits a all → Drew meaning took asked a b es true → Drew meaning took asked b c (rest (functions b.host.now) b.nib) going
       → Drew meaning took asked a c all going
   rest_drew functions kept es rest {a = a} split fits d e = ends_with meaning took asked refl (passes_on meaning took asked functions kept es rest split (starts meaning took asked a _ fits) d) e
+
+  -- or by its own values alone
+  pub last_fits : (es fs : List Event) {a b : Outliner S K} {all : List Event} → all ≡ es ++ fs → Fits a all → Drew meaning took asked a b es true → Fits b fs
+  last_fits es fs {a = a} split fits d = (goes_on meaning took asked es fs split (starts meaning took asked a _ fits) d).fits
+
+  pub last_drew : (es fs : List Event) {a b c : Outliner S K} {all : List Event} {going : Bool} → all ≡ es ++ fs → Fits a all → Drew meaning took asked a b es true → Drew meaning took asked b c fs going → Drew meaning took asked a c all going
+  last_drew es fs {a = a} split fits d e = ends_with meaning took asked refl (goes_on meaning took asked es fs split (starts meaning took asked a _ fits) d) e

@@ -1,4 +1,6 @@
 ghost use Rattle.std.specs.Prelude.{◌∷◌, [], is_ok};
+ghost use Rattle.path.specs.declared.command.Command.TheVariants.{MoveTo, LineTo};
+ghost use Rattle.stroke.specs.Events.{sends};
 ghost use Rattle.stroke.specs.Outliners.{Drew, Fits};
 ghost use Rattle.stroke.specs.Outlines.{sides, other_sides, around, closed_ring};
 ghost use Rattle.stroke.specs.Rings.{other_sides_on, back_closed, turned, turned_and_back, round_and_back, seamless_ring};
@@ -21,12 +23,28 @@ impl<'a, S: Sink, K: MathsHost> Outliner<'a, S, K> {
         self.send(Command::Close)
     }
 
+    // A closed run starts at the end of its last side, and its way back at the end of the last other
+    // side.
+    fn move_to_end(&mut self, o: OffsetSegment) -> Result<(), Refused>
+        requires { Fits self.old (sends (MoveTo o.end) ∷ []) }
+        ensures { Drew S.meaning S.took K.asked self.old self.new (sends (MoveTo o.end) ∷ []) (is_ok result) }
+    {
+        self.send(Command::MoveTo(o.end))
+    }
+
+    fn line_to_end(&mut self, o: OffsetSegment) -> Result<(), Refused>
+        requires { Fits self.old (sends (LineTo o.end) ∷ []) }
+        ensures { Drew S.meaning S.took K.asked self.old self.new (sends (LineTo o.end) ∷ []) (is_ok result) }
+    {
+        self.send(Command::LineTo(o.end))
+    }
+
     // From the end of the other side b, where the way back begins and ends, to the side p.
     fn turn(&mut self, b: OffsetSegment, p: OffsetSegment) -> Result<(), Refused>
         requires { Fits self.old (turned (K.functions self.old.host.now) self.old.nib b p) }
         ensures { Drew S.meaning S.took K.asked self.old self.new (turned (K.functions self.old.host.now) self.old.nib b p) (is_ok result) }
     {
-        self.send(Command::LineTo(b.end))?;
+        self.line_to_end(b)?;
         self.go_forward(b, p)
     }
 
@@ -70,7 +88,7 @@ impl<'a, S: Sink, K: MathsHost> Outliner<'a, S, K> {
         requires { Fits self.old (seamless_ring (K.functions self.old.host.now) self.old.nib e (sides self.old.nib (R.pieces row.now)) b p (other_sides_on self.old.nib (R.pieces row.now))) }
         ensures { Drew S.meaning S.took K.asked self.old self.new (seamless_ring (K.functions self.old.host.now) self.old.nib e (sides self.old.nib (R.pieces row.now)) b p (other_sides_on self.old.nib (R.pieces row.now))) (is_ok result) }
     {
-        self.send(Command::MoveTo(e.end))?;
+        self.move_to_end(e)?;
         self.go_round_and_close(row, e, b, p)
     }
 

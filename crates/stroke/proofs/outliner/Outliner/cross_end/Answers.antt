@@ -1,38 +1,14 @@
-use Rattle.std.proofs.Common.{◌++◌, map, ap, sym, refl}
+use Rattle.std.proofs.Common.{map, refl}
 use Rattle.stroke.specs.Events.{sends}
-use Rattle.stroke.specs.Outlines.{emitted, cap_events}
-use Rattle.pen.specs.declared.corner.Turn.{Turn}
-use Rattle.stroke.proofs.Drawn.{starts, goes_on, ends_refused, ends_with, next_fits}
+use Rattle.stroke.specs.Outlines.{emitted}
+use Rattle.stroke.proofs.Two.{first_refused, last_fits, last_drew}
 use Rattle.stroke.proofs.outliner.Outliner.cross_end.Goals as goal
 
-pub cap-requires : goal.cap-requires
-cap-requires g c =
-    let n = c.args.self.now in
-    let F = g.K.MathsHost.functions n.host.now in
-    let split = ap (λ (t : Turn). cap_events F n.nib.end_cap n.nib.radius t ++ (map sends (emitted c.args.p.segment))) (sym c.turn_between.ensures) in
-    let start = starts g.S.Sink.meaning g.S.Sink.took g.K.MathsHost.asked n _ c.requires in
-    next_fits g.S.Sink.meaning g.S.Sink.took g.K.MathsHost.asked _ (map sends (emitted c.args.p.segment)) split start
-
-pub returns-in_err-cap : goal.returns-in_err-cap
-returns-in_err-cap g c =
-    let n = c.args.self.now in
-    let F = g.K.MathsHost.functions n.host.now in
-    let split = ap (λ (t : Turn). cap_events F n.nib.end_cap n.nib.radius t ++ (map sends (emitted c.args.p.segment))) (sym c.turn_between.ensures) in
-    let start = starts g.S.Sink.meaning g.S.Sink.took g.K.MathsHost.asked n _ c.requires in
-    ends_refused g.S.Sink.meaning g.S.Sink.took g.K.MathsHost.asked c.from_residual.result _ (map sends (emitted c.args.p.segment)) c.from_residual.ensures.0 split start c.in_err-cap.ensures
+pub returns-in_err-cap_end : goal.returns-in_err-cap_end
+returns-in_err-cap_end g c = first_refused c.from_residual.result _ (map sends (emitted c.args.p.segment)) c.from_residual.ensures.0 c.requires c.in_err-cap_end.ensures
 
 pub emit-requires : goal.emit-requires
-emit-requires g c =
-    let n = c.args.self.now in
-    let F = g.K.MathsHost.functions n.host.now in
-    let split = ap (λ (t : Turn). cap_events F n.nib.end_cap n.nib.radius t ++ (map sends (emitted c.args.p.segment))) (sym c.turn_between.ensures) in
-    let start = starts g.S.Sink.meaning g.S.Sink.took g.K.MathsHost.asked n _ c.requires in
-    (goes_on g.S.Sink.meaning g.S.Sink.took g.K.MathsHost.asked _ (map sends (emitted c.args.p.segment)) split start c.in_ok-cap.ensures).fits
+emit-requires g c = last_fits _ (map sends (emitted c.args.p.segment)) refl c.requires c.in_ok-cap_end.ensures
 
 pub returns : goal.returns
-returns g c =
-    let n = c.args.self.now in
-    let F = g.K.MathsHost.functions n.host.now in
-    let split = ap (λ (t : Turn). cap_events F n.nib.end_cap n.nib.radius t ++ (map sends (emitted c.args.p.segment))) (sym c.turn_between.ensures) in
-    let start = starts g.S.Sink.meaning g.S.Sink.took g.K.MathsHost.asked n _ c.requires in
-    ends_with g.S.Sink.meaning g.S.Sink.took g.K.MathsHost.asked refl (goes_on g.S.Sink.meaning g.S.Sink.took g.K.MathsHost.asked _ (map sends (emitted c.args.p.segment)) split start c.in_ok-cap.ensures) c.emit.ensures
+returns g c = last_drew _ (map sends (emitted c.args.p.segment)) refl c.requires c.in_ok-cap_end.ensures c.emit.ensures
