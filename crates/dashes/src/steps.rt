@@ -32,10 +32,14 @@ impl Steps {
         ensures answer { result ≡ spend_answer self.old }
         ensures after { self.new ≡ spent_one self.old }
     {
-        if self.taken >= self.budget {
+        let Steps { taken, budget } = *self;
+        if taken >= budget {
             return Err(Spent);
         }
-        self.taken += 1;
+        *self = Steps {
+            taken: taken + 1,
+            budget,
+        };
         Ok(())
     }
 }
