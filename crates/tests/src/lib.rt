@@ -4,6 +4,8 @@
 #[cfg(test)]
 mod bezier;
 #[cfg(test)]
+mod dash_walks;
+#[cfg(test)]
 mod ellipses;
 #[cfg(test)]
 mod jobs;
