@@ -8,4 +8,5 @@ mod Playing
 mod Rows
 mod Stretches
 mod Two
+mod WalkRanges
 mod Walking
