@@ -6,6 +6,7 @@ mod Drawn
 mod Offsets
 mod Playing
 mod Rows
+mod Seen
 mod Stretches
 mod Two
 mod WalkRanges
