@@ -3,7 +3,7 @@ use Rattle.std.proofs.Common.{◌≡◌, ℕ, suc, ◌+◌, ◌-◌, ◌<◌, �
 use Rattle.numbers.specs.Arithmetic.{◌⊕◌}
 use Rattle.dashes.specs.Patterns.{joined_over, following, length_at, empty_after}
 
-one_more : (n : ℕ) (xs : List Float) (i : ℕ) (len : Float) → empty_after xs i ≡ true
+pub one_more : (n : ℕ) (xs : List Float) (i : ℕ) (len : Float) → empty_after xs i ≡ true
     → joined_over (suc n) (empty_after xs i) xs i len ≡ joined_over n (empty_after xs (following xs (following xs i))) xs (following xs (following xs i)) (len ⊕ length_at xs (following xs (following xs i)))
 unfolding joined_over
 one_more n xs i len is = ap (λ b. joined_over (suc n) b xs i len) is

@@ -1,4 +1,5 @@
 pub mod Digits
+pub mod Enough
 pub mod Joining
 pub mod Ranges
 pub mod Reaching

@@ -8,7 +8,7 @@ use Rattle.std.proofs.lemmas.Float.{T_from_false, le_of_not-lt}
 use Rattle.numbers.specs.Arithmetic.{◌⊕◌, zero, one}
 use Rattle.dashes.specs.Patterns.{some, full, with_gap, gap_sum, has_gap, gap_of_one, room_between, accepted, negative}
 
-is_true : (b : Bool) → T b → b ≡ true
+pub is_true : (b : Bool) → T b → b ≡ true
 is_true true t = refl
 is_true false t = absurd t
 
@@ -16,7 +16,7 @@ one_number : NotNan one
 unfolding is_nan of_bits of_fields odd count_trailing_zeros
 one_number = tt
 
-le_one : (x : Float) → NotNan x → lt x one ≡ false → le one x ≡ true
+pub le_one : (x : Float) → NotNan x → lt x one ≡ false → le one x ≡ true
 le_one x number small = is_true _ (le_of_not-lt x one number one_number (T_from_false _ small))
 
 -- what is neither below 1 nor from 1 on is NaN

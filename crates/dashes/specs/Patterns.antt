@@ -1,5 +1,5 @@
 -- Which lengths make a pattern, and where in it a run begins.
-use Rattle.std.specs.Prelude.{ℕ, zero as zeroⁿ, suc, ◌+◌, ◌%◌, Bool, true, false, cond, not, ◌&&◌, ◌||◌, List, [], ◌∷◌, fold, length, slice_index_or, nat_eq, nat_le, from_bits, Some, None, Option, Float}
+use Rattle.std.specs.Prelude.{◌≡◌, ℕ, zero as zeroⁿ, suc, ◌+◌, ◌%◌, ◌<◌, Bool, true, false, cond, not, ◌&&◌, ◌||◌, List, [], ◌∷◌, fold, length, slice_index_or, nat_eq, nat_le, from_bits, Some, None, Option, Float}
 use Rattle.std.specs.Float.{binary32, nan, float_with_sign}
 use Rattle.std.specs.Float.Ieee.{lt, le, eq, rem}
 use Rattle.numbers.specs.Arithmetic.{◌⊕◌, ◌⊖◌, ◌⊗◌, zero, one}
@@ -107,3 +107,7 @@ gap_of_one gap (x ∷ xs) = (gap && le one x) || gap_of_one (not gap) xs
 abbrev pub room_between : List Float → Bool
 room_between (x ∷ []) = full x
 room_between xs = gap_of_one false xs
+
+-- from the place of a dash, more turns than there are lengths join nothing more
+abbrev pub JoinsAll : List Float → Type 0
+JoinsAll xs = (i m : ℕ) (len : Float) → i < length xs → (length xs % 2 ≡ 0 → i % 2 ≡ 0) → joined_over (length xs + m) (empty_after xs i) xs i len ≡ joined_over (length xs) (empty_after xs i) xs i len

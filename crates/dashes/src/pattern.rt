@@ -138,13 +138,15 @@ fn offset_within(lengths: &[f32], offset: f32) -> f32
 }
 
 impl<'a> Pattern<'a> {
-    ghost use Rattle.std.specs.Prelude.{option_map};
-    ghost use Rattle.dashes.specs.Patterns.{pattern_of, taken_at};
+    ghost use Rattle.std.specs.Prelude.{option_map, IfSome};
+    ghost use Rattle.dashes.specs.Patterns.{pattern_of, taken_at, JoinsAll};
     ghost use Rattle.dashes.specs.PatternValues.{values, taken};
 
-    /// The pattern of some lengths, begun at an offset; none where the lengths are no pattern.
+    /// The pattern of some lengths, begun at an offset; none where the lengths are no pattern. Dashes of
+    /// a pattern are joined over gaps of 0 as far as such gaps go.
     pub fn new(dashes: &'a [f32], offset: f32) -> Option<Pattern<'a>>
-        ensures { option_map values result ≡ pattern_of dashes.now offset }
+        ensures pattern { option_map values result ≡ pattern_of dashes.now offset }
+        ensures joins { IfSome result (λ p. JoinsAll p.lengths.now) }
     {
         if !is_accepted(dashes) {
             return None;
