@@ -13,5 +13,5 @@ mod passes;
 mod row;
 mod stretch;
 mod strokes;
-mod tally;
+pub mod tally;
 mod walks;

@@ -1,0 +1,4 @@
+//! What the programs `outline` and `replay` print: a job's stroke, line by line.
+#![tactic(auto)]
+
+pub mod drawn;
