@@ -4,6 +4,7 @@ mod Collecting
 mod Contours
 mod Drawn
 mod Offsets
+mod Performing
 mod Playing
 mod Rows
 mod Seen

@@ -8,3 +8,4 @@ pub mod Outcomes
 pub mod Outlines
 pub mod Ranges
 pub mod Rings
+pub mod Strokers

@@ -12,6 +12,7 @@ mod parts;
 mod passes;
 mod row;
 mod stretch;
+mod stroker;
 mod strokes;
 pub mod tally;
 mod walks;

@@ -18,6 +18,7 @@ pub(crate) trait Row {
 }
 
 /// All the segments of a run.
+#[derive(Drop)]
 pub(crate) struct Run<'b, B> {
     pub(crate) storage: &'b B,
 }

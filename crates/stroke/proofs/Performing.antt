@@ -1,0 +1,239 @@
+-- What a stroker has done, action by action.
+use Rattle.std.proofs.Common.{◌≡◌, ℕ, ◌+◌, ◌≤◌, Bool, true, false, not, cond, T, List, [], ◌∷◌, ◌++◌, map, length, is_ok, Some, None, Option, Ok, Err, Result, sym, refl, ap, ◌∙◌, subst, nat_lt, nat_le, arith, length-append}
+use lib.Ieee.{Float}
+use Rattle.std.proofs.lemmas.Bool.{cond_both, leb-true, leb-false, lt-ltb, le-ltb}
+use Rattle.maths.specs.Functions.{Functions}
+use Rattle.maths.specs.declared.host.Function.{Function}
+use Rattle.path.specs.declared.command.Command.{Command}
+use Rattle.path.specs.declared.refusal.Reason.{Reason}
+use Rattle.path.specs.declared.refusal.Reason.TheVariants.{StorageFull, StepsSpent}
+use Rattle.segments.specs.declared.segment.Segment.{Segment}
+use Rattle.sinks.specs.Meaning.{Meaning, takes}
+use Rattle.segments.specs.declared.segment.Segment.TheVariants.{Line, Curve, End}
+use Rattle.lent.specs.declared.Full.{Full}
+use Rattle.storage.specs.Meaning.{room}
+use Rattle.cursor.specs.Drawings as drawings
+use Rattle.pen.specs.declared.nib.Nib.{Nib}
+use Rattle.dashes.specs.declared.steps.Spent.{Spent}
+use Rattle.dashes.specs.declared.steps.Steps.{Steps}
+use Rattle.dashes.specs.StepCounts.{spend_answer, spent_one}
+use Rattle.stroke.specs.declared.stroker.Stroker.{Stroker}
+use Rattle.stroke.specs.Events.{Event, asks, sends, Drawing, drawing, then, play}
+use Rattle.dashes.specs.Patterns.{Dashes}
+use Rattle.stroke.specs.Collecting.{collected, gather}
+use Rattle.stroke.specs.Calls.{Action, clears, stores, ends, steps, works_out, draws, run_actions, run_by_run}
+use Rattle.stroke.specs.Outcomes.{Stage, why_not, after_draw, act_on, perform}
+use Rattle.stroke.specs.Outliners.{Drew}
+use Rattle.stroke.specs.Strokers.{FitsAll, stage_of, Kept, Performed}
+
+kept_self : {S B K : Type 0} (a : Stroker S B K) → Kept a a
+kept_self a = record { outliner = record { sink = refl; host = refl; nib = refl }; storage = refl; budget = refl }
+
+kept_then : {S B K : Type 0} {a b c : Stroker S B K} → Kept a b → Kept b c → Kept a c
+kept_then p q = record {
+  outliner = record { sink = q.outliner.sink ∙ p.outliner.sink; host = q.outliner.host ∙ p.outliner.host; nib = q.outliner.nib ∙ p.outliner.nib };
+  storage = q.storage ∙ p.storage;
+  budget = q.budget ∙ p.budget;
+}
+
+-- S the sinks, B the storages and K the hosts, with what they do
+module _ {S B K : Type 0} (meaning : S → Meaning) (took : S → Command → S) (held : B → List Segment) (capacity : B → ℕ) (cleared : B → B) (pushed : B → Segment → B) (asked : K → Function → Float → K) where
+  abbrev pub run : ℕ → List Action → Stage S B K → Stage S B K
+  run n actions d = perform meaning took held capacity cleared pushed asked n actions d
+
+  abbrev pub step : ℕ → Option Reason → Action → Stage S B K → Stage S B K
+  step n stop a d = act_on meaning took held capacity cleared pushed asked n stop a d
+
+  abbrev pub drawn : Stage S B K → Drawing S K → Stage S B K
+  drawn d x = after_draw meaning took held capacity cleared pushed asked 0 d x
+
+  perform_append : (n : ℕ) (acts rest : List Action) (d : Stage S B K) → run n (acts ++ rest) d ≡ run n rest (run n acts d)
+  unfolding perform
+  perform_append n [] rest d = refl
+  perform_append n (a ∷ acts) rest d = perform_append n acts rest (step n d.stop a d)
+
+  -- a stroke that has stopped stays as it is
+  stopped : (n : ℕ) (acts : List Action) (why : Reason) (d : Stage S B K) → d.stop ≡ Some why → run n acts d ≡ d
+  unfolding perform
+  stopped n [] why d is = refl
+  stopped n (a ∷ acts) why d is = ap (λ (stop : Option Reason). run n acts (step n stop a d)) is ∙ stopped n acts why d is
+
+  -- an action sends a command at most, or reads an end
+  act_counts : (n : ℕ) (a : Action) (d : Stage S B K) → (step n None a d).sent + (step n None a d).ended ≤ d.sent + d.ended + 1
+  act_counts n clears d = omega arith
+  act_counts n (stores x) d = cond_both (room (held d.storage) (capacity d.storage)) _ _ (λ (e : Stage S B K). e.sent + e.ended ≤ d.sent + d.ended + 1) (λ _. omega arith) (λ _. omega arith)
+  act_counts n ends d = omega arith
+  act_counts n steps d = cond_both (nat_lt d.taken n) _ _ (λ (e : Stage S B K). e.sent + e.ended ≤ d.sent + d.ended + 1) (λ _. omega arith) (λ _. omega arith)
+  act_counts n (works_out m r) d = omega arith
+  act_counts n (draws (asks q)) d = omega arith
+  act_counts n (draws (sends c)) d = cond_both (takes (meaning d.sink) c) _ _ (λ (x : Drawing S K). x.sent + d.ended ≤ d.sent + d.ended + 1) (λ _. omega arith) (λ _. omega arith)
+
+  step_counts : (n : ℕ) (stop : Option Reason) (a : Action) (d : Stage S B K) → (step n stop a d).sent + (step n stop a d).ended ≤ d.sent + d.ended + 1
+  step_counts n None a d = act_counts n a d
+  step_counts n (Some why) a d = omega arith
+
+  counts_grow : (n : ℕ) (acts : List Action) (d : Stage S B K) → (run n acts d).sent + (run n acts d).ended ≤ d.sent + d.ended + length acts
+  unfolding perform
+  counts_grow n [] d = omega arith
+  counts_grow n (a ∷ acts) d = omega (arith, step_counts n d.stop a d, counts_grow n acts (step n d.stop a d))
+
+  -- events as actions
+  draws_then : (n : ℕ) (e : Event) (s : S) (k : K) (m : ℕ) (going : Bool) (d : Stage S B K) → step n (why_not going) (draws e) (drawn d (drawing s k m going)) ≡ drawn d (then meaning took asked e (drawing s k m going))
+  draws_then n e s k m true d = refl
+  draws_then n e s k m false d = refl
+
+  plays : (n : ℕ) (es : List Event) (d : Stage S B K) (x : Drawing S K) → run n (map draws es) (drawn d x) ≡ drawn d (play meaning took asked es x)
+  unfolding perform play
+  plays n [] d x = refl
+  plays n (e ∷ es) d x = ap (run n (map draws es)) (draws_then n e x.sink x.host x.sent x.going d) ∙ plays n es d (then meaning took asked e x)
+
+  -- what an outliner has drawn, its stroker has done
+  pub drew_performed : {a b : Stroker S B K} {es : List Event} {going : Bool} {stop : Option Reason} → Drew meaning took asked a.outliner b.outliner es going → b.storage.now ≡ a.storage.now → b.storage.ghost_name ≡ a.storage.ghost_name
+      → b.steps ≡ a.steps → b.ended ≡ a.ended → stop ≡ why_not going → Performed meaning took held capacity cleared pushed asked a b (map draws es) stop
+  drew_performed {a = a} {b = b} {es = es} {going = going} d storage name taken ended stop = record {
+    performed = (λ i. record { sink = b.outliner.sink.now; storage = storage i; host = b.outliner.host.now; sent = b.outliner.sent; taken = (taken i).taken; ended = ended i; stop = stop i })
+        ∙ ap (drawn (stage_of a None)) d.played ∙ sym (plays a.steps.budget es (stage_of a None) (drawing a.outliner.sink.now a.outliner.host.now a.outliner.sent true));
+    kept = record { outliner = d.same; storage = name; budget = ap (λ (s : Steps). s.budget) taken };
+  }
+
+  -- a step that was spent
+  one_spent : (full less : Bool) (s : Steps) (d : Stage S B K) (answer : Result (Unit {0}) Spent) → less ≡ not full → answer ≡ cond full (Err (record {})) (Ok tt)
+      → record d { taken = (cond full s (record { taken = s.taken + 1; budget = s.budget })).taken; stop = cond (is_ok answer) None (Some StepsSpent) }
+      ≡ cond less (record d { taken = s.taken + 1; stop = None }) (record d { taken = s.taken; stop = Some StepsSpent })
+  one_spent true less s d answer is said = rw (is, said) refl
+  one_spent false less s d answer is said = rw (is, said) refl
+
+  less_or_all : (m n : ℕ) → nat_lt m n ≡ not (nat_le n m)
+  less_or_all m n = cond_both (nat_le n m) true false (λ _. nat_lt m n ≡ not (nat_le n m)) (λ e. le-ltb m n (leb-true n m e) ∙ ap not (sym e)) (λ e. lt-ltb m n (leb-false n m e) ∙ ap not (sym e))
+
+  pub spend_performed : {a b : Stroker S B K} {stop : Option Reason} {r : Result (Unit {0}) Spent} → r ≡ spend_answer a.steps → b.steps ≡ spent_one a.steps → b.outliner ≡ a.outliner → b.storage ≡ a.storage → b.ended ≡ a.ended
+      → stop ≡ cond (is_ok r) None (Some StepsSpent) → Performed meaning took held capacity cleared pushed asked a b (steps ∷ []) stop
+  unfolding perform
+  spend_performed {a = a} {b = b} {r = r} answer taken outliner storage ended stop = record {
+    performed = (λ i. record { sink = (outliner i).sink.now; storage = (storage i).now; host = (outliner i).host.now; sent = (outliner i).sent; taken = (taken i).taken; ended = ended i; stop = stop i })
+        ∙ one_spent (nat_le a.steps.budget a.steps.taken) (nat_lt a.steps.taken a.steps.budget) a.steps (stage_of a None) r (less_or_all a.steps.taken a.steps.budget) answer;
+    kept = record {
+      outliner = record { sink = λ i. (outliner i).sink.ghost_name; host = λ i. (outliner i).host.ghost_name; nib = λ i. (outliner i).nib };
+      storage = λ i. (storage i).ghost_name;
+      budget = ap (λ (s : Steps). s.budget) taken ∙ cond_both (nat_le a.steps.budget a.steps.taken) a.steps _ (λ (s : Steps). s.budget ≡ a.steps.budget) (λ _. refl) (λ _. refl);
+    };
+  }
+
+  -- no action alters the functions
+  act_same : (functions : K → Functions) → ((s : K) (f : Function) (x : Float) → functions (asked s f x) ≡ functions s) → (n : ℕ) (a : Action) (d : Stage S B K) → functions (step n None a d).host ≡ functions d.host
+  act_same functions same n clears d = refl
+  act_same functions same n (stores x) d = cond_both (room (held d.storage) (capacity d.storage)) _ _ (λ (e : Stage S B K). functions e.host ≡ functions d.host) (λ _. refl) (λ _. refl)
+  act_same functions same n ends d = refl
+  act_same functions same n steps d = cond_both (nat_lt d.taken n) _ _ (λ (e : Stage S B K). functions e.host ≡ functions d.host) (λ _. refl) (λ _. refl)
+  act_same functions same n (works_out m r) d = refl
+  act_same functions same n (draws (asks q)) d = same d.host q.0 q.1
+  act_same functions same n (draws (sends c)) d = cond_both (takes (meaning d.sink) c) _ _ (λ (x : Drawing S K). functions x.host ≡ functions d.host) (λ _. refl) (λ _. refl)
+
+  step_same : (functions : K → Functions) → ((s : K) (f : Function) (x : Float) → functions (asked s f x) ≡ functions s) → (n : ℕ) (stop : Option Reason) (a : Action) (d : Stage S B K) → functions (step n stop a d).host ≡ functions d.host
+  step_same functions same n None a d = act_same functions same n a d
+  step_same functions same n (Some why) a d = refl
+
+  run_same : (functions : K → Functions) → ((s : K) (f : Function) (x : Float) → functions (asked s f x) ≡ functions s) → (n : ℕ) (acts : List Action) (d : Stage S B K) → functions (run n acts d).host ≡ functions d.host
+  unfolding perform
+  run_same functions same n [] d = refl
+  run_same functions same n (a ∷ acts) d = run_same functions same n acts (step n d.stop a d) ∙ step_same functions same n d.stop a d
+
+  -- from a stroker that is to do all actions, to one that has these left
+  pub record Leads (a : Stroker S B K) (all : List Action) (b : Stroker S B K) (left : List Action) : Type 0 where
+    pub whole : run b.steps.budget left (stage_of b None) ≡ run a.steps.budget all (stage_of a None)
+    pub kept : Kept a b
+    pub fits : FitsAll b left
+
+module _ {S B K : Type 0} {meaning : S → Meaning} {took : S → Command → S} {held : B → List Segment} {capacity : B → ℕ} {cleared : B → B} {pushed : B → Segment → B} {asked : K → Function → Float → K} where
+  pub performed_none : (a : Stroker S B K) {all : List Action} → all ≡ [] → Performed meaning took held capacity cleared pushed asked a a all None
+  unfolding perform
+  performed_none a none = record { performed = sym (ap (λ (l : List Action). run meaning took held capacity cleared pushed asked a.steps.budget l (stage_of a None)) none); kept = kept_self a }
+
+  pub performed_by : {a b : Stroker S B K} {acts these : List Action} {stop : Option Reason} → acts ≡ these → Performed meaning took held capacity cleared pushed asked a b acts stop → Performed meaning took held capacity cleared pushed asked a b these stop
+  performed_by {a = a} is p = record { performed = p.performed ∙ ap (λ (l : List Action). run meaning took held capacity cleared pushed asked a.steps.budget l (stage_of a None)) is; kept = p.kept }
+
+  pub starts : (a : Stroker S B K) (all : List Action) → FitsAll a all → Leads meaning took held capacity cleared pushed asked a all a all
+  starts a all fits = record { whole = refl; kept = kept_self a; fits = fits }
+
+  -- what is left where some of it was done
+  done_first : (acts rest : List Action) {b c : Stroker S B K} {left : List Action} {stop : Option Reason} → left ≡ acts ++ rest → Performed meaning took held capacity cleared pushed asked b c acts stop
+      → run meaning took held capacity cleared pushed asked c.steps.budget rest (stage_of c stop) ≡ run meaning took held capacity cleared pushed asked b.steps.budget left (stage_of b None)
+  done_first acts rest {b = b} {c = c} split p =
+      (λ i. run meaning took held capacity cleared pushed asked (p.kept.budget i) rest (p.performed i))
+      ∙ sym (perform_append meaning took held capacity cleared pushed asked b.steps.budget acts rest (stage_of b None))
+      ∙ ap (λ (l : List Action). run meaning took held capacity cleared pushed asked b.steps.budget l (stage_of b None)) (sym split)
+
+  done_fits : (acts rest : List Action) {b c : Stroker S B K} {left : List Action} {stop : Option Reason} → left ≡ acts ++ rest → Performed meaning took held capacity cleared pushed asked b c acts stop → FitsAll b left → FitsAll c rest
+  done_fits acts rest {b = b} {c = c} split p fits =
+      omega (arith, counts_grow meaning took held capacity cleared pushed asked b.steps.budget acts (stage_of b None), ap (λ (d : Stage S B K). d.sent) p.performed, ap (λ (d : Stage S B K). d.ended) p.performed, ap length split, length-append acts rest)
+
+  -- some of the actions that are left are done
+  pub goes_on : (acts rest : List Action) {a b c : Stroker S B K} {all left : List Action} → left ≡ acts ++ rest → Leads meaning took held capacity cleared pushed asked a all b left → Performed meaning took held capacity cleared pushed asked b c acts None
+      → Leads meaning took held capacity cleared pushed asked a all c rest
+  goes_on acts rest split l p = record { whole = done_first acts rest split p ∙ l.whole; kept = kept_then l.kept p.kept; fits = done_fits acts rest split p l.fits }
+
+  -- and one of them is refused
+  pub ends_refused : (why : Reason) (acts rest : List Action) {a b c : Stroker S B K} {all left : List Action} → left ≡ acts ++ rest → Leads meaning took held capacity cleared pushed asked a all b left
+      → Performed meaning took held capacity cleared pushed asked b c acts (Some why) → Performed meaning took held capacity cleared pushed asked a c all (Some why)
+  ends_refused why acts rest {c = c} split l p = record {
+    performed = sym (stopped meaning took held capacity cleared pushed asked c.steps.budget rest why (stage_of c (Some why)) refl) ∙ done_first acts rest split p ∙ l.whole;
+    kept = kept_then l.kept p.kept;
+  }
+
+  -- all that are left are done
+  pub ends_with : {a b c : Stroker S B K} {all left acts : List Action} {stop : Option Reason} → acts ≡ left → Leads meaning took held capacity cleared pushed asked a all b left
+      → Performed meaning took held capacity cleared pushed asked b c acts stop → Performed meaning took held capacity cleared pushed asked a c all stop
+  ends_with is l p = record { performed = (performed_by is p).performed ∙ l.whole; kept = kept_then l.kept p.kept }
+
+  pub ends_there : {a b : Stroker S B K} {all left : List Action} → left ≡ [] → Leads meaning took held capacity cleared pushed asked a all b left → Performed meaning took held capacity cleared pushed asked a b all None
+  ends_there {b = b} none l = ends_with refl l (performed_none b none)
+
+  pub next_fits : (acts rest : List Action) {a b : Stroker S B K} {all left : List Action} → left ≡ acts ++ rest → Leads meaning took held capacity cleared pushed asked a all b left → FitsAll b acts
+  next_fits acts rest split l = omega (arith, l.fits, ap length split, length-append acts rest)
+
+  pub functions_stay : (functions : K → Functions) → ((s : K) (f : Function) (x : Float) → functions (asked s f x) ≡ functions s) → {a b : Stroker S B K} {acts : List Action} {stop : Option Reason}
+      → Performed meaning took held capacity cleared pushed asked a b acts stop → functions b.outliner.host.now ≡ functions a.outliner.host.now
+  functions_stay functions same {a = a} {acts = acts} p = ap (λ (d : Stage S B K). functions d.host) p.performed ∙ run_same meaning took held capacity cleared pushed asked functions same a.steps.budget acts (stage_of a None)
+
+-- What comes of collecting: the run is drawn and the rest follows, or the storage was full.
+module _ {S B K : Type 0} (meaning : S → Meaning) (took : S → Command → S) (held : B → List Segment) (capacity : B → ℕ) (cleared : B → B) (pushed : B → Segment → B) (asked : K → Function → Float → K)
+    (F : Functions) (nib : Nib) (pattern : Option Dashes) (n : ℕ) where
+  abbrev pub after_collecting : Stage S B K → B → K → Result (Option Bool) Full → List drawings.Event → Stage S B K
+  after_collecting d b k (Ok None) es = run meaning took held capacity cleared pushed asked n (run_actions F nib pattern false (held b)) (record d { storage = b; host = k })
+  after_collecting d b k (Ok (Some closed)) es =
+      run meaning took held capacity cleared pushed asked n (ends ∷ (run_actions F nib pattern closed (held b) ++ (clears ∷ run_by_run F nib pattern [] es))) (record d { storage = b; host = k })
+  after_collecting d b k (Err e) es = record d { storage = b; host = k; stop = Some StorageFull }
+
+  stored_one : (fits : Bool) (x : Segment) (acts : List Action) (b : B) (k : K) (es : List drawings.Event) (d : Stage S B K) → d.stop ≡ None → room (held b) (capacity b) ≡ fits
+      → (fits ≡ true → run meaning took held capacity cleared pushed asked n acts (record d { storage = pushed b x; host = k }) ≡ (let c = gather held capacity pushed asked (pushed b x) k es in after_collecting d c.storage c.host c.answer c.left))
+      → run meaning took held capacity cleared pushed asked n (stores x ∷ acts) (record d { storage = b; host = k })
+      ≡ (let c = cond fits (gather held capacity pushed asked (pushed b x) k es) (collected b k (Err (record {})) es) in after_collecting d c.storage c.host c.answer c.left)
+  unfolding perform
+  stored_one true x acts b k es d going fits on =
+      let at : Stage S B K = record d { storage = b; host = k } in
+      ap (λ (stop : Option Reason). run meaning took held capacity cleared pushed asked n acts (step meaning took held capacity cleared pushed asked n stop (stores x) at)) going
+      ∙ ap (λ t. run meaning took held capacity cleared pushed asked n acts (cond t (record at { storage = pushed b x }) (record at { stop = Some StorageFull }))) fits ∙ on refl
+  stored_one false x acts b k es d going fits on =
+      let at : Stage S B K = record d { storage = b; host = k } in
+      ap (λ (stop : Option Reason). run meaning took held capacity cleared pushed asked n acts (step meaning took held capacity cleared pushed asked n stop (stores x) at)) going
+      ∙ ap (λ t. run meaning took held capacity cleared pushed asked n acts (cond t (record at { storage = pushed b x }) (record at { stop = Some StorageFull }))) fits
+      ∙ stopped meaning took held capacity cleared pushed asked n acts StorageFull (record at { stop = Some StorageFull }) refl
+
+  pub gathered : ((s : B) (x : Segment) → T (room (held s) (capacity s)) → held (pushed s x) ≡ held s ++ (x ∷ [])) → (xs : List Segment) (es : List drawings.Event) (b : B) (k : K) (d : Stage S B K) → d.stop ≡ None → held b ≡ xs
+      → run meaning took held capacity cleared pushed asked n (run_by_run F nib pattern xs es) (record d { storage = b; host = k })
+      ≡ (let c = gather held capacity pushed asked b k es in after_collecting d c.storage c.host c.answer c.left)
+  unfolding perform gather run_by_run
+  gathered grows xs [] b k d going is = ap (λ (ys : List Segment). run meaning took held capacity cleared pushed asked n (run_actions F nib pattern false ys) (record d { storage = b; host = k })) (sym is)
+  gathered grows xs (drawings.asks q ∷ es) b k d going is =
+      let at : Stage S B K = record d { storage = b; host = k } in
+      ap (λ (stop : Option Reason). run meaning took held capacity cleared pushed asked n (run_by_run F nib pattern xs es) (step meaning took held capacity cleared pushed asked n stop (draws (asks q)) at)) going
+      ∙ ap (λ (stop : Option Reason). run meaning took held capacity cleared pushed asked n (run_by_run F nib pattern xs es) (record at { host = asked k q.0 q.1; stop = stop })) (sym going)
+      ∙ gathered grows xs es b (asked k q.0 q.1) d going is
+  gathered grows xs (drawings.gives (End closed) ∷ es) b k d going is =
+      ap (λ (ys : List Segment). run meaning took held capacity cleared pushed asked n (ends ∷ (run_actions F nib pattern closed ys ++ (clears ∷ run_by_run F nib pattern [] es))) (record d { storage = b; host = k })) (sym is)
+  gathered grows xs (drawings.gives (Line i l) ∷ es) b k d going is =
+      stored_one (room (held b) (capacity b)) (Line i l) (run_by_run F nib pattern (xs ++ (Line i l ∷ [])) es) b k es d going refl
+      (λ fits. gathered grows (xs ++ (Line i l ∷ [])) es (pushed b (Line i l)) k d going (grows b (Line i l) (subst T (sym fits) tt) ∙ ap (λ (ys : List Segment). ys ++ (Line i l ∷ [])) is))
+  gathered grows xs (drawings.gives (Curve i c) ∷ es) b k d going is =
+      stored_one (room (held b) (capacity b)) (Curve i c) (run_by_run F nib pattern (xs ++ (Curve i c ∷ [])) es) b k es d going refl
+      (λ fits. gathered grows (xs ++ (Curve i c ∷ [])) es (pushed b (Curve i c)) k d going (grows b (Curve i c) (subst T (sym fits) tt) ∙ ap (λ (ys : List Segment). ys ++ (Curve i c ∷ [])) is))

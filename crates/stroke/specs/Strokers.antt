@@ -1,0 +1,35 @@
+-- What a stroker has done.
+use Rattle.std.specs.Prelude.{◌≡◌, ℕ, ◌+◌, ◌^◌, ◌<◌, List, length, Some, None, Option, Ok, Err, Result, Float}
+use Rattle.maths.specs.declared.host.Function.{Function}
+use Rattle.path.specs.declared.command.Command.{Command}
+use Rattle.path.specs.declared.refusal.Reason.{Reason}
+use Rattle.segments.specs.declared.segment.Segment.{Segment}
+use Rattle.sinks.specs.Meaning.{Meaning}
+use Rattle.stroke.specs.declared.stroker.Stroker.{Stroker}
+use Rattle.stroke.specs.Calls.{Action}
+use Rattle.stroke.specs.Outcomes.{Stage, perform}
+use Rattle.stroke.specs.Outliners.{Same}
+
+-- so many actions can be counted: none sends a command and reads an end
+abbrev pub FitsAll : {S B K : Type 0} → Stroker S B K → List Action → Type 0
+FitsAll s actions = s.outliner.sent + s.ended + length actions < 2 ^ 63
+
+abbrev pub stage_of : {S B K : Type 0} → Stroker S B K → Option Reason → Stage S B K
+stage_of s stop = record { sink = s.outliner.sink.now; storage = s.storage.now; host = s.outliner.host.now; sent = s.outliner.sent; taken = s.steps.taken; ended = s.ended; stop = stop }
+
+-- why a stroke stopped, by the answer
+abbrev pub stop_of : {X : Type 0} → Result X Reason → Option Reason
+stop_of (Ok x) = None
+stop_of (Err why) = Some why
+
+-- a stroker keeps its references, its nib and its budget
+pub record Kept {S B K : Type 0} (a b : Stroker S B K) : Type 0 where
+  pub outliner : Same a.outliner b.outliner
+  pub storage : b.storage.ghost_name ≡ a.storage.ghost_name
+  pub budget : b.steps.budget ≡ a.steps.budget
+
+-- one stroker came from another by these actions, up to the first refusal
+pub record Performed {S B K : Type 0} (meaning : S → Meaning) (took : S → Command → S) (held : B → List Segment) (capacity : B → ℕ) (cleared : B → B) (pushed : B → Segment → B) (asked : K → Function → Float → K)
+    (a b : Stroker S B K) (actions : List Action) (stop : Option Reason) : Type 0 where
+  pub performed : stage_of b stop ≡ perform meaning took held capacity cleared pushed asked a.steps.budget actions (stage_of a None)
+  pub kept : Kept a b
