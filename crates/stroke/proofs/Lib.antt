@@ -1,3 +1,4 @@
+mod Added
 mod Blocks
 mod Bounds
 mod Collecting
