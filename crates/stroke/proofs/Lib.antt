@@ -4,6 +4,7 @@ mod Bounds
 mod Collecting
 mod Contours
 mod Drawn
+mod Lengths
 mod Offsets
 mod Performing
 mod Playing
