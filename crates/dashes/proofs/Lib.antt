@@ -1,5 +1,6 @@
 pub mod Digits
 pub mod Enough
+pub mod InPlace
 pub mod Joining
 pub mod Ranges
 pub mod Reaching

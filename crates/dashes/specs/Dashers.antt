@@ -1,5 +1,5 @@
 -- The walk of a pattern along a run, one dash or gap after another.
-use Rattle.std.specs.Prelude.{ℕ, ◌+◌, Bool, true, false, cond, not, ◌&&◌, List, length, nat_lt, nat_le, Float}
+use Rattle.std.specs.Prelude.{◌≡◌, ℕ, ◌+◌, ◌%◌, Bool, true, false, cond, not, ◌&&◌, List, length, nat_lt, nat_le, Float}
 use Rattle.std.specs.Float.Ieee.{lt, eq}
 use Rattle.numbers.specs.Arithmetic.{◌⊕◌, ◌⊖◌, zero, one}
 use Rattle.segments.specs.declared.segment.Segment.{Segment}
@@ -121,3 +121,13 @@ one_taken p xs w d = let v = advanced (length xs) w in walked p xs v d.next (rea
 
 abbrev pub next_of : Dashes → List Segment → Walk → Next
 next_of p xs w = cond (goes_on (length xs) w) (one_taken p xs w (taken_by p w)) (stays w)
+
+-- ---- dashes and gaps in their places
+
+-- whether the length that is taken next is a dash; the first one is taken before it is walked
+abbrev pub dash_comes : Walk → Bool
+dash_comes w = cond w.is_first (not w.on) w.on
+
+-- Until a walk is over a dash stands at an even place and a gap at an odd one, where the number of lengths is even.
+abbrev pub InPlace : Dashes → Walk → Type 0
+InPlace p w = w.done ≡ false → length p.lengths % 2 ≡ 0 → w.index % 2 ≡ cond (dash_comes w) 0 1

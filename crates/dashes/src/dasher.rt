@@ -55,7 +55,7 @@ impl Range {
 impl<'a> Dasher<'a> {
     ghost use Rattle.std.specs.Prelude.{length};
     ghost use Rattle.dashes.specs.PatternValues.{values};
-    ghost use Rattle.dashes.specs.Dashers.{begun, seeks, sought, next_of};
+    ghost use Rattle.dashes.specs.Dashers.{begun, seeks, sought, next_of, InPlace};
     ghost use Rattle.dashes.specs.Walks.{GivesWithin, WalksWithin};
 
     /// The walk before its first step, with the first dash of the pattern taken. Whatever run it walks,
@@ -63,6 +63,7 @@ impl<'a> Dasher<'a> {
     pub fn init(closed: bool, pattern: Pattern<'a>) -> Dasher<'a>
         ensures walk { result ≡ record { pattern = pattern.entry; walk = begun (values pattern.entry) closed } }
         ensures within { WalksWithin result }
+        ensures in_place { InPlace (values pattern.entry) result.walk }
     {
         Dasher {
             pattern,
@@ -79,7 +80,8 @@ impl<'a> Dasher<'a> {
 
     /// One turn of the search for the offset: a dash or a gap is passed over.
     pub fn seek(&mut self)
-        ensures { self.new ≡ record { pattern = self.old.pattern; walk = sought (values self.old.pattern) self.old.walk } }
+        ensures after { self.new ≡ record { pattern = self.old.pattern; walk = sought (values self.old.pattern) self.old.walk } }
+        ensures in_place { InPlace (values self.old.pattern) self.old.walk → InPlace (values self.new.pattern) self.new.walk }
     {
         self.walk = self.walk.seek(self.pattern);
     }
@@ -90,6 +92,7 @@ impl<'a> Dasher<'a> {
         ensures op { result ≡ (next_of (values self.old.pattern) (B.held storage.now) self.old.walk).op }
         ensures after { self.new ≡ record { pattern = self.old.pattern; walk = (next_of (values self.old.pattern) (B.held storage.now) self.old.walk).after } }
         ensures within { GivesWithin (length (B.held storage.now)) result }
+        ensures in_place { InPlace (values self.old.pattern) self.old.walk → InPlace (values self.new.pattern) self.new.walk }
     {
         let next = self.walk.next(self.pattern, storage);
         self.walk = next.after;
