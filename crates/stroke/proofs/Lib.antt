@@ -5,6 +5,7 @@ mod Collecting
 mod Contours
 mod Drawn
 mod Lengths
+mod Lawfully
 mod Offsets
 mod Performing
 mod Playing
