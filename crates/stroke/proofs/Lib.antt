@@ -4,8 +4,8 @@ mod Bounds
 mod Collecting
 mod Contours
 mod Drawn
-mod Lengths
 mod Lawfully
+mod Lengths
 mod Offsets
 mod Performing
 mod Playing

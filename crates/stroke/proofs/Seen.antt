@@ -117,11 +117,7 @@ pub record StorageLaws {B : Type 0} (held : B → List Segment) (capacity : B �
   pub grows : (b : B) (x : Segment) → T (room (held b) (capacity b)) → held (pushed b x) ≡ held b ++ (x ∷ [])
   pub same_pushed : (b : B) (x : Segment) → T (room (held b) (capacity b)) → capacity (pushed b x) ≡ capacity b
 
--- a storage in values has them
-pub held_laws : StorageLaws (λ (b : Held). b.segments) (λ (b : Held). b.capacity) emptied stored
-held_laws = record { empties = λ b. refl; same_cleared = λ b. refl; grows = λ b x fits. refl; same_pushed = λ b x fits. refl }
-
--- what is done before a storage is emptied does not tell in what follows: answer and sink are those of a storage that was empty
+-- where the storage is emptied first, answer and sink are those of a call whose storage was empty
 first_emptied : (r : Result (Unit {0}) Refusal) (m : Meaning) (b b' : Held) (d : Stage Meaning Held (Unit {0})) →
     ((or_unaltered r m b tt d).answer ≡ (or_unaltered r m b' tt d).answer) × ((or_unaltered r m b tt d).sink ≡ (or_unaltered r m b' tt d).sink)
 first_emptied (Ok x) m b b' d = (refl, refl)
@@ -144,6 +140,7 @@ module _ {S B K : Type 0} (meaning : S → Meaning) (took : S → Command → S)
       })
       budget F cs style dashes s b k
 
+  -- with the answer and what it was lent
   pub whole_held : {r : Result Tally Refusal} {s' : S} {b' : B} {k' : K} {h : Held} → held_by held capacity b ≡ h
       → record { answer = r; sink = s'; storage = b'; host = k' } ≡ stroked meaning took held capacity cleared pushed asked budget F cs style dashes s b k
       → record { answer = r; sink = s'; storage = held_by held capacity b'; host = k' }
