@@ -1,0 +1,3 @@
+pub mod Inputs
+pub mod Outcomes
+pub mod Table
