@@ -5,7 +5,7 @@
 use common::arc::Arc;
 use common::generator::Generator;
 use common::host::{logged, row_bytes, Host};
-use common::program::{self, Case};
+use common::program::{self, Case, Way};
 use common::spelling::digits;
 use std::f32::consts::{PI, TAU};
 use std::process::ExitCode;
@@ -14,7 +14,11 @@ use zeno::geometry::Point;
 use zeno::path_builder::{arc, ArcSize, ArcSweep};
 
 fn main() -> ExitCode {
-    program::main("arcs", case)
+    let ways = [
+        ("make", Way::Make(case)),
+        ("check", Way::Check(case, program::CHUNK)),
+    ];
+    program::main("arcs", &ways)
 }
 
 fn case(seed: u64, number: u64) -> Case {
@@ -35,6 +39,7 @@ fn case(seed: u64, number: u64) -> Case {
         input,
         output: format!("{}= {}\n", lines.concat(), lines.len()),
         nan_cosine: false,
+        counts: Vec::new(),
     }
 }
 

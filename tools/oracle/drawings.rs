@@ -5,13 +5,17 @@
 use common::generator::Generator;
 use common::host::{has_nan_cosine, logged, row_bytes, Host};
 use common::paths;
-use common::program::{self, Case};
+use common::program::{self, Case, Way};
 use common::spelling::{digits, path_bytes, path_words};
 use std::process::ExitCode;
 use zeno::segment::{segments, Segment};
 
 fn main() -> ExitCode {
-    program::main("drawings", drawing)
+    let ways = [
+        ("make", Way::Make(drawing)),
+        ("check", Way::Check(drawing, program::CHUNK)),
+    ];
+    program::main("drawings", &ways)
 }
 
 fn drawing(seed: u64, number: u64) -> Case {
@@ -39,6 +43,7 @@ fn drawing(seed: u64, number: u64) -> Case {
         input,
         output: format!("{}= {}\n", lines.concat(), lines.len()),
         nan_cosine: has_nan_cosine(&rows),
+        counts: Vec::new(),
     }
 }
 

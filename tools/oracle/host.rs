@@ -2,6 +2,7 @@
 use crate::generator::Generator;
 use crate::spelling::bits;
 use std::cell::RefCell;
+use std::collections::BTreeMap;
 use std::f32::consts::PI;
 use std::panic::{catch_unwind, AssertUnwindSafe};
 use std::process::exit;
@@ -93,19 +94,31 @@ pub fn has_nan_cosine(rows: &[Row]) -> bool {
 struct Log {
     host: Host,
     rows: Vec<Row>,
+    /// The answers in the rows, by function and argument.
+    known: BTreeMap<(u8, u32), u32>,
+    /// Whether questions are answered without a row.
+    hushed: bool,
+}
+
+impl Log {
+    const fn new(host: Host) -> Log {
+        Log {
+            host,
+            rows: Vec::new(),
+            known: BTreeMap::new(),
+            hushed: false,
+        }
+    }
 }
 
 thread_local! {
-    static LOG: RefCell<Log> = const { RefCell::new(Log { host: Host::Std, rows: Vec::new() }) };
+    static LOG: RefCell<Log> = const { RefCell::new(Log::new(Host::Std)) };
 }
 
 /// Lets zeno work with a host. The rows are its questions, each once, in the order of first asking.
 /// A panic of zeno is told with the title of the work, and is the end.
 pub fn logged<T>(host: Host, title: &str, work: impl FnOnce() -> T) -> (T, Vec<Row>) {
-    LOG.set(Log {
-        host,
-        rows: Vec::new(),
-    });
+    LOG.set(Log::new(host));
     let Ok(done) = catch_unwind(AssertUnwindSafe(work)) else {
         eprintln!("zeno panicked: {title}");
         exit(2);
@@ -116,22 +129,34 @@ pub fn logged<T>(host: Host, title: &str, work: impl FnOnce() -> T) -> (T, Vec<R
     )
 }
 
+/// How many rows there are by now.
+pub fn asked() -> usize {
+    LOG.with_borrow(|log| log.rows.len())
+}
+
+/// While it is hushed the log takes no rows.
+pub fn hush(hushed: bool) {
+    LOG.with_borrow_mut(|log| log.hushed = hushed);
+}
+
 // What `ext.rs` calls.
 
 #[unsafe(no_mangle)]
 fn oracle_ask(function: u8, x: f32) -> f32 {
     let argument = bits(x);
     LOG.with_borrow_mut(|log| {
-        let known = |row: &&Row| row.function == function && row.argument == argument;
-        if let Some(row) = log.rows.iter().find(known) {
-            return f32::from_bits(row.answer);
+        if let Some(&answer) = log.known.get(&(function, argument)) {
+            return f32::from_bits(answer);
         }
         let answer = bits(log.host.answer(function, f32::from_bits(argument)));
-        log.rows.push(Row {
-            function,
-            argument,
-            answer,
-        });
+        if !log.hushed {
+            log.known.insert((function, argument), answer);
+            log.rows.push(Row {
+                function,
+                argument,
+                answer,
+            });
+        }
         f32::from_bits(answer)
     })
 }

@@ -7,43 +7,78 @@ use std::path::Path;
 use std::process::{Command, ExitCode, Stdio};
 use std::thread;
 
-/// How many cases one run of the compared program is given.
-const CHUNK: usize = 200;
+/// How many cases one run of the compared program is given at most.
+pub const CHUNK: usize = 200;
 
 pub struct Case {
     /// What it is, for people.
     pub title: String,
     /// Its bytes in the input.
     pub input: Vec<u8>,
-    /// What zeno gives for it: lines, of which the last alone begins with `=`.
+    /// What zeno gives for it: lines, of which the last alone begins with `=` or `!`.
     pub output: String,
     /// Whether the host answered a cosine by NaN. Such a case is left out.
     pub nan_cosine: bool,
+    /// What else is counted in it.
+    pub counts: Vec<(String, u64)>,
 }
 
 /// The case of a seed with a number.
 type Cases = fn(u64, u64) -> Case;
 
-pub fn main(name: &str, cases: Cases) -> ExitCode {
+/// What is done with the cases of a seed.
+#[derive(Clone, Copy)]
+pub enum Way {
+    /// SEED COUNT DIR: so many are stored.
+    Make(Cases),
+    /// SEED NUMBER DIR: the one with a number is stored.
+    One(Cases),
+    /// SEED COUNT PROGRAM: so many are compared, with a few for each run of the program.
+    Check(Cases, usize),
+}
+
+/// The ways by the words that ask for them.
+pub fn main(name: &str, ways: &[(&str, Way)]) -> ExitCode {
     let arguments: Vec<String> = std::env::args().skip(1).collect();
     let words: Vec<&str> = arguments.iter().map(String::as_str).collect();
-    let done = match (words.as_slice(), numbers(&words)) {
-        (["make", _, _, dir], Some((seed, count))) => make(cases, seed, count, Path::new(dir)),
-        (["check", _, _, program @ ..], Some((seed, count))) if !program.is_empty() => {
-            check(cases, seed, count, program)
+    let Some(done) = done(&words, ways) else {
+        eprintln!("usage:");
+        for (word, way) in ways {
+            eprintln!("    {name} {word} {}", way.usage());
         }
-        _ => {
-            eprintln!(
-                "usage: {name} make SEED COUNT DIR\n       {name} check SEED COUNT PROGRAM.."
-            );
-            return ExitCode::from(2);
-        }
+        return ExitCode::from(2);
     };
     match done {
         Ok(alike) => ExitCode::from(u8::from(!alike)),
         Err(error) => {
             eprintln!("{}: {error}", words[3]);
             ExitCode::from(2)
+        }
+    }
+}
+
+/// None if the words ask for nothing.
+fn done(words: &[&str], ways: &[(&str, Way)]) -> Option<io::Result<bool>> {
+    let (_, way) = *ways.iter().find(|(word, _)| words.first() == Some(word))?;
+    let ((seed, count), last) = (numbers(words)?, words.get(3..)?);
+    match (way, last) {
+        (Way::Make(cases), [dir]) => Some(make(cases, seed, count, Path::new(dir))),
+        (Way::One(cases), [dir]) => {
+            let case = cases(seed, count as u64);
+            println!("{}", case.title);
+            Some(write(Path::new(dir), &case.input, &case.output))
+        }
+        (Way::Check(cases, size), [_, ..]) => Some(check(cases, seed, count, size, last)),
+        _ => None,
+    }
+}
+
+impl Way {
+    fn usage(self) -> &'static str {
+        match self {
+            Way::Make(_) => "SEED COUNT DIR",
+            Way::One(_) => "SEED NUMBER DIR",
+            Way::Check(..) => "SEED COUNT PROGRAM..",
         }
     }
 }
@@ -61,22 +96,25 @@ fn make(cases: Cases, seed: u64, count: usize, dir: &Path) -> io::Result<bool> {
         input.extend(case.input);
         output.push_str(&case.output);
     }
-    fs::create_dir_all(dir)?;
-    fs::write(dir.join("stdin"), &input)?;
-    fs::write(dir.join("stdout"), &output)?;
     println!("{tally}");
     println!("{kept}");
+    write(dir, &input, &output)
+}
+
+fn write(dir: &Path, input: &[u8], output: &str) -> io::Result<bool> {
+    fs::create_dir_all(dir)?;
+    fs::write(dir.join("stdin"), input)?;
+    fs::write(dir.join("stdout"), output)?;
     println!("stdin {} bytes, stdout {} bytes", input.len(), output.len());
     Ok(true)
 }
 
 /// Answers whether all is alike.
-fn check(cases: Cases, seed: u64, count: usize, program: &[&str]) -> io::Result<bool> {
+fn check(cases: Cases, seed: u64, count: usize, size: usize, program: &[&str]) -> io::Result<bool> {
     let mut kept = Kept::new(cases, seed);
     let mut tally = Tally::default();
-    for first in (0..count).step_by(CHUNK) {
-        let size = CHUNK.min(count - first);
-        let chunk: Vec<Case> = kept.by_ref().take(size).collect();
+    for first in (0..count).step_by(size) {
+        let chunk: Vec<Case> = kept.by_ref().take(size.min(count - first)).collect();
         let input = chunk.iter().flat_map(|case| &case.input).copied().collect();
         let output = run(program, input)?;
         for (case, block) in chunk.iter().zip(blocks(&output, chunk.len())) {
@@ -154,7 +192,7 @@ pub fn run(program: &[&str], input: Vec<u8>) -> io::Result<String> {
     Ok(text)
 }
 
-/// The text of each case: up to a line with `=`, and for the last one all that is left.
+/// The text of each case: up to a line with `=` or `!`, and for the last one all that is left.
 fn blocks(text: &str, count: usize) -> Vec<&str> {
     let mut blocks = Vec::new();
     let mut rest = text;
@@ -162,7 +200,7 @@ fn blocks(text: &str, count: usize) -> Vec<&str> {
         let mut end = 0;
         for line in rest.split_inclusive('\n') {
             end += line.len();
-            if line.starts_with('=') {
+            if line.starts_with(['=', '!']) {
                 break;
             }
         }
@@ -179,6 +217,8 @@ struct Tally {
     cases: u64,
     /// How many lines begin with a letter.
     lines: BTreeMap<char, u64>,
+    /// What else was counted.
+    counts: BTreeMap<String, u64>,
     differing: u64,
 }
 
@@ -187,6 +227,9 @@ impl Tally {
         self.cases += 1;
         for letter in case.output.lines().filter_map(|line| line.chars().next()) {
             *self.lines.entry(letter).or_default() += 1;
+        }
+        for (what, count) in &case.counts {
+            *self.counts.entry(what.clone()).or_default() += count;
         }
     }
 
@@ -205,9 +248,13 @@ impl fmt::Display for Tally {
     fn fmt(&self, f: &mut fmt::Formatter) -> fmt::Result {
         let all: u64 = self.lines.values().sum();
         write!(f, "{} cases, {all} lines, by their letters:", self.cases)?;
-        self.lines
-            .iter()
-            .try_for_each(|(letter, count)| write!(f, " {letter} {count}"))
+        for (letter, count) in &self.lines {
+            write!(f, " {letter} {count}")?;
+        }
+        for (what, count) in &self.counts {
+            write!(f, "\n{what}: {count}")?;
+        }
+        Ok(())
     }
 }
 

@@ -17,6 +17,12 @@ pub fn digits(points: &[Point]) -> String {
     points.iter().map(digits).collect()
 }
 
+/// The printed line of a command.
+pub fn command_line(command: &Command) -> String {
+    let (letter, points) = parts(command);
+    format!("{}{}\n", char::from(letter), digits(&points))
+}
+
 /// The bytes of a path: letters, and the bits of numbers with the high byte first.
 pub fn path_bytes(path: &[Command]) -> Vec<u8> {
     let mut bytes = Vec::new();
@@ -40,7 +46,8 @@ pub fn path_words(path: &[Command]) -> String {
     path.iter().map(words).collect()
 }
 
-fn parts(command: &Command) -> (u8, Vec<Point>) {
+/// A command's letter and its points.
+pub fn parts(command: &Command) -> (u8, Vec<Point>) {
     match *command {
         Command::MoveTo(to) => (b'M', vec![to]),
         Command::LineTo(to) => (b'L', vec![to]),

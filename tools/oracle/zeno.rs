@@ -1,4 +1,5 @@
-//! The root of a crate whose modules are zeno's own files. `build` lays them beside this one.
+//! The root of a crate whose modules are zeno's own files, and `counted`, the copy of `stroke` that
+//! `count.rs` makes. `build` lays them beside this one.
 //!
 //! std must stay out of this crate: with it the calls `x.sin()`, `x.sqrt()` and so on would reach
 //! std's own functions, not the trait in `ext`.
@@ -11,6 +12,7 @@ pub(crate) mod lib {
 }
 
 pub mod command;
+pub mod counted;
 mod ext;
 pub mod geometry;
 pub mod path_builder;
