@@ -63,7 +63,7 @@ pub record Table : Type 0 where
   pub offsets : Dashed GapFirst false zero (done 12 8) two_bars × Dashed DashFirst true (whole (pos 4)) (done 12 6) two_bars
   -- the first dash goes on over the gap of 0
   pub empty_gap : Dashed EmptyGap true (whole (pos 7)) (done 12 4) (bar (pos 0) (pos 7) ++ bar (pos 9) (pos 16))
-  -- a gap below 1 is no pattern's, nor is a length below 1 alone
+  -- 2 and 0.5 make no pattern, nor does 0.5 alone; 1 alone is dash and gap
   pub short : Plain ShortGap (bar (pos 0) (pos 8)) × Plain ShortAlone (bar (pos 0) (pos 8)) × Dashed OneAlone true one (done 24 10) four_bars
   -- of two equal roots one is kept, and where the first two are equal the third is dropped too
   pub roots : (kept zero zero half ≡ zero ∷ []) × (kept zero half half ≡ zero ∷ half ∷ [])
