@@ -1,1 +1,3 @@
 pub mod Drawn
+pub mod Messages
+pub mod Settings
