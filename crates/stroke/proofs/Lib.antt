@@ -3,6 +3,7 @@ mod Blocks
 mod Bounds
 mod Collecting
 mod Contours
+mod Dashing
 mod Drawn
 mod Lawfully
 mod Lengths

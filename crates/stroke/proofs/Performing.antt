@@ -1,5 +1,5 @@
 -- What a stroker has done, action by action.
-use Rattle.std.proofs.Common.{◌≡◌, ℕ, ◌+◌, ◌≤◌, Bool, true, false, not, cond, T, List, [], ◌∷◌, ◌++◌, map, length, is_ok, Some, None, Option, Ok, Err, Result, sym, refl, ap, ◌∙◌, subst, nat_lt, nat_le, arith, length-append}
+use Rattle.std.proofs.Common.{◌≡◌, ℕ, ◌+◌, ◌<◌, ◌≤◌, ◌^◌, Bool, true, false, not, cond, T, List, [], ◌∷◌, ◌++◌, map, length, drop, is_ok, is_err, IsErrAnd, Some, None, Option, Ok, Err, Result, sym, refl, ap, ◌∙◌, subst, nat_lt, nat_le, arith, length-append}
 use lib.Ieee.{Float}
 use Rattle.std.proofs.lemmas.Bool.{cond_both, leb-true, leb-false, lt-ltb, le-ltb}
 use Rattle.maths.specs.Functions.{Functions}
@@ -12,19 +12,23 @@ use Rattle.sinks.specs.Meaning.{Meaning, takes}
 use Rattle.segments.specs.declared.segment.Segment.TheVariants.{Line, Curve, End}
 use Rattle.lent.specs.declared.Full.{Full}
 use Rattle.storage.specs.Meaning.{room}
+use Rattle.cursor.specs.declared.cursor.Segments.{Segments}
+use Rattle.cursor.specs.Cursors.{seen, rest, fresh}
+use Rattle.cursor.specs.Drawings.{pieces_given, pieces_drawn, still, drawn_whole}
 use Rattle.cursor.specs.Drawings as drawings
 use Rattle.pen.specs.declared.nib.Nib.{Nib}
 use Rattle.dashes.specs.declared.steps.Spent.{Spent}
 use Rattle.dashes.specs.declared.steps.Steps.{Steps}
 use Rattle.dashes.specs.StepCounts.{spend_answer, spent_one}
+use Rattle.stroke.specs.declared.outliner.Outliner.{Outliner}
 use Rattle.stroke.specs.declared.stroker.Stroker.{Stroker}
 use Rattle.stroke.specs.Events.{Event, asks, sends, Drawing, drawing, then, play}
 use Rattle.dashes.specs.Patterns.{Dashes}
-use Rattle.stroke.specs.Collecting.{collected, gather}
+use Rattle.stroke.specs.Collecting.{Collected, collected, gather}
 use Rattle.stroke.specs.Calls.{Action, clears, stores, ends, steps, works_out, draws, run_actions, run_by_run}
 use Rattle.stroke.specs.Outcomes.{Stage, why_not, after_draw, act_on, perform}
 use Rattle.stroke.specs.Outliners.{Drew}
-use Rattle.stroke.specs.Strokers.{FitsAll, stage_of, Kept, Performed}
+use Rattle.stroke.specs.Strokers.{FitsAll, stage_of, Kept, Performed, Undrawn, taken_in, stop_of}
 
 kept_self : {S B K : Type 0} (a : Stroker S B K) → Kept a a
 kept_self a = record { outliner = record { sink = refl; host = refl; nib = refl }; storage = refl; budget = refl }
@@ -155,6 +159,12 @@ module _ {S B K : Type 0} {meaning : S → Meaning} {took : S → Command → S}
   pub starts : (a : Stroker S B K) (all : List Action) → FitsAll a all → Leads meaning took held capacity cleared pushed asked a all a all
   starts a all fits = record { whole = refl; kept = kept_self a; fits = fits }
 
+  pub starts_with : (a : Stroker S B K) {all left : List Action} → left ≡ all → FitsAll a all → Leads meaning took held capacity cleared pushed asked a all a left
+  starts_with a is fits = record { whole = ap (λ (l : List Action). run meaning took held capacity cleared pushed asked a.steps.budget l (stage_of a None)) is; kept = kept_self a; fits = omega (arith, fits, ap length is) }
+
+  pub stopped_by : {a b : Stroker S B K} {acts : List Action} {stop said : Option Reason} → said ≡ stop → Performed meaning took held capacity cleared pushed asked a b acts stop → Performed meaning took held capacity cleared pushed asked a b acts said
+  stopped_by {b = b} is p = record { performed = ap (stage_of b) is ∙ p.performed; kept = p.kept }
+
   -- what is left where some of it was done
   done_first : (acts rest : List Action) {b c : Stroker S B K} {left : List Action} {stop : Option Reason} → left ≡ acts ++ rest → Performed meaning took held capacity cleared pushed asked b c acts stop
       → run meaning took held capacity cleared pushed asked c.steps.budget rest (stage_of c stop) ≡ run meaning took held capacity cleared pushed asked b.steps.budget left (stage_of b None)
@@ -195,19 +205,72 @@ module _ {S B K : Type 0} {meaning : S → Meaning} {took : S → Command → S}
       → Performed meaning took held capacity cleared pushed asked a b acts stop → functions b.outliner.host.now ≡ functions a.outliner.host.now
   functions_stay functions same {a = a} {acts = acts} p = ap (λ (d : Stage S B K). functions d.host) p.performed ∙ run_same meaning took held capacity cleared pushed asked functions same a.steps.budget acts (stage_of a None)
 
+  -- reading an end
+  pub end_performed : {a b : Stroker S B K} → b.outliner ≡ a.outliner → b.storage ≡ a.storage → b.steps ≡ a.steps → b.ended ≡ a.ended + 1 → Performed meaning took held capacity cleared pushed asked a b (ends ∷ []) None
+  unfolding perform
+  end_performed {a = a} {b = b} outliner storage taken ended = record {
+    performed = λ i. record { sink = (outliner i).sink.now; storage = (storage i).now; host = (outliner i).host.now; sent = (outliner i).sent; taken = (taken i).taken; ended = ended i; stop = None };
+    kept = record {
+      outliner = record { sink = λ i. (outliner i).sink.ghost_name; host = λ i. (outliner i).host.ghost_name; nib = λ i. (outliner i).nib };
+      storage = λ i. (storage i).ghost_name;
+      budget = λ i. (taken i).budget;
+    };
+  }
+
+  pub leads_functions : (functions : K → Functions) → ((s : K) (f : Function) (x : Float) → functions (asked s f x) ≡ functions s) → {a b : Stroker S B K} {all left : List Action}
+      → Leads meaning took held capacity cleared pushed asked a all b left → functions b.outliner.host.now ≡ functions a.outliner.host.now
+  leads_functions functions same {a = a} {b = b} {all = all} {left = left} l =
+      sym (run_same meaning took held capacity cleared pushed asked functions same b.steps.budget left (stage_of b None)) ∙ ap (λ (d : Stage S B K). functions d.host) l.whole
+      ∙ run_same meaning took held capacity cleared pushed asked functions same a.steps.budget all (stage_of a None)
+
+-- the reason of a refusal that is passed on
+pub passed_on : {X : Type 0} (r : Result X Reason) (why : Reason) → is_err r ≡ true → IsErrAnd r (λ (e : Reason). e ≡ why) → stop_of r ≡ Some why
+passed_on (Ok x) why wrong same = absurd cc
+passed_on (Err e) why refused same = ap Some same
+
+pub taken_ok : (r : Result (Option Bool) Full) (end : Option Bool) → Ok end ≡ taken_in r → r ≡ Ok end
+taken_ok (Ok x) end is = let same : end ≡ x = cc in ap Ok (sym same)
+taken_ok (Err e) end is = absurd cc
+
+pub taken_full : (r : Result (Option Bool) Full) (why : Reason) → Err why ≡ taken_in r → (is_err r ≡ true) × (why ≡ StorageFull)
+taken_full (Ok x) why is = absurd cc
+taken_full (Err e) why is = let same : why ≡ StorageFull = cc in (refl, same)
+
+-- a cursor before the first command gives a whole drawing
+pub fresh_gives : (F : Functions) (cs : List Command) (s : Segments) → seen s ≡ fresh true → s.place ≡ 0 → still F (seen s) (rest s cs) ≡ drawn_whole F true cs
+unfolding pieces_given pieces_drawn
+fresh_gives F cs s machine place = λ i. still F (machine i) (drop (place i) cs)
+
+-- an empty run does nothing
+pub no_run : (F : Functions) (nib : Nib) (pattern : Option Dashes) (closed : Bool) (xs : List Segment) → length xs ≡ 0 → run_actions F nib pattern closed xs ≡ []
+no_run F nib pattern closed [] none = refl
+no_run F nib pattern closed (x ∷ xs) none = absurd (omega (arith, none))
+
+-- what is left to do after a run was collected, of which the storage may hold only a part
+abbrev pub left_over : {B : Type 0} → (B → List Segment) → Functions → Nib → Option Dashes → B → Result (Option Bool) Full → List drawings.Event → List Action
+left_over held F nib pattern b (Ok None) es = run_actions F nib pattern false (held b)
+left_over held F nib pattern b (Ok (Some closed)) es = (ends ∷ run_actions F nib pattern closed (held b)) ++ (clears ∷ run_by_run F nib pattern [] es)
+left_over held F nib pattern b (Err e) es = []
+
+-- a stroker whose outliner went on, with another run in its storage
+abbrev pub with_run : {S B K : Type 0} → Stroker S B K → Outliner S K → B → Stroker S B K
+with_run a o s = record a { outliner = o; storage = record a.storage { now = s } }
+
+-- where the storage was full all stops
+abbrev pub stop_at : Result (Option Bool) Full → Option Reason → Option Reason
+stop_at (Ok end) stop = stop
+stop_at (Err e) stop = Some StorageFull
+
 -- What comes of collecting: the run is drawn and the rest follows, or the storage was full.
 module _ {S B K : Type 0} (meaning : S → Meaning) (took : S → Command → S) (held : B → List Segment) (capacity : B → ℕ) (cleared : B → B) (pushed : B → Segment → B) (asked : K → Function → Float → K)
     (F : Functions) (nib : Nib) (pattern : Option Dashes) (n : ℕ) where
-  abbrev pub after_collecting : Stage S B K → B → K → Result (Option Bool) Full → List drawings.Event → Stage S B K
-  after_collecting d b k (Ok None) es = run meaning took held capacity cleared pushed asked n (run_actions F nib pattern false (held b)) (record d { storage = b; host = k })
-  after_collecting d b k (Ok (Some closed)) es =
-      run meaning took held capacity cleared pushed asked n (ends ∷ (run_actions F nib pattern closed (held b) ++ (clears ∷ run_by_run F nib pattern [] es))) (record d { storage = b; host = k })
-  after_collecting d b k (Err e) es = record d { storage = b; host = k; stop = Some StorageFull }
+  abbrev pub after_collecting : Stage S B K → Collected B K → Stage S B K
+  after_collecting d c = run meaning took held capacity cleared pushed asked n (left_over held F nib pattern c.storage c.answer c.left) (record d { storage = c.storage; host = c.host; stop = stop_at c.answer d.stop })
 
   stored_one : (fits : Bool) (x : Segment) (acts : List Action) (b : B) (k : K) (es : List drawings.Event) (d : Stage S B K) → d.stop ≡ None → room (held b) (capacity b) ≡ fits
-      → (fits ≡ true → run meaning took held capacity cleared pushed asked n acts (record d { storage = pushed b x; host = k }) ≡ (let c = gather held capacity pushed asked (pushed b x) k es in after_collecting d c.storage c.host c.answer c.left))
+      → (fits ≡ true → run meaning took held capacity cleared pushed asked n acts (record d { storage = pushed b x; host = k }) ≡ after_collecting d (gather held capacity pushed asked (pushed b x) k es))
       → run meaning took held capacity cleared pushed asked n (stores x ∷ acts) (record d { storage = b; host = k })
-      ≡ (let c = cond fits (gather held capacity pushed asked (pushed b x) k es) (collected b k (Err (record {})) es) in after_collecting d c.storage c.host c.answer c.left)
+      ≡ after_collecting d (cond fits (gather held capacity pushed asked (pushed b x) k es) (collected b k (Err (record {})) es))
   unfolding perform
   stored_one true x acts b k es d going fits on =
       let at : Stage S B K = record d { storage = b; host = k } in
@@ -221,7 +284,7 @@ module _ {S B K : Type 0} (meaning : S → Meaning) (took : S → Command → S)
 
   pub gathered : ((s : B) (x : Segment) → T (room (held s) (capacity s)) → held (pushed s x) ≡ held s ++ (x ∷ [])) → (xs : List Segment) (es : List drawings.Event) (b : B) (k : K) (d : Stage S B K) → d.stop ≡ None → held b ≡ xs
       → run meaning took held capacity cleared pushed asked n (run_by_run F nib pattern xs es) (record d { storage = b; host = k })
-      ≡ (let c = gather held capacity pushed asked b k es in after_collecting d c.storage c.host c.answer c.left)
+      ≡ after_collecting d (gather held capacity pushed asked b k es)
   unfolding perform gather run_by_run
   gathered grows xs [] b k d going is = ap (λ (ys : List Segment). run meaning took held capacity cleared pushed asked n (run_actions F nib pattern false ys) (record d { storage = b; host = k })) (sym is)
   gathered grows xs (drawings.asks q ∷ es) b k d going is =
@@ -237,3 +300,109 @@ module _ {S B K : Type 0} (meaning : S → Meaning) (took : S → Command → S)
   gathered grows xs (drawings.gives (Curve i c) ∷ es) b k d going is =
       stored_one (room (held b) (capacity b)) (Curve i c) (run_by_run F nib pattern (xs ++ (Curve i c ∷ [])) es) b k es d going refl
       (λ fits. gathered grows (xs ++ (Curve i c ∷ [])) es (pushed b (Curve i c)) k d going (grows b (Curve i c) (subst T (sym fits) tt) ∙ ap (λ (ys : List Segment). ys ++ (Curve i c ∷ [])) is))
+
+  -- no more is left than there was, and no more is held
+  record Fewer (all had : ℕ) (c : Collected B K) : Type 0 where
+    less : length (left_over held F nib pattern c.storage c.answer c.left) ≤ all
+    few : length (held c.storage) ≤ had + all
+
+  fewer_one : (x : Segment) (acts : List Action) (b : B) (k : K) (es : List drawings.Event) {had : ℕ} → length (held b) ≤ had
+      → (room (held b) (capacity b) ≡ true → Fewer (length acts) (had + 1) (gather held capacity pushed asked (pushed b x) k es))
+      → Fewer (length (stores x ∷ acts)) had (cond (room (held b) (capacity b)) (gather held capacity pushed asked (pushed b x) k es) (collected b k (Err (record {})) es))
+  fewer_one x acts b k es {had = had} within on =
+      cond_both (room (held b) (capacity b)) _ _ (λ (c : Collected B K). Fewer (length (stores x ∷ acts)) had c)
+      (λ fits. let f = on fits in record { less = omega (arith, f.less); few = omega (arith, f.few) })
+      (λ _. record { less = omega arith; few = omega (arith, within) })
+
+  gathered_fewer : ((s : B) (x : Segment) → T (room (held s) (capacity s)) → held (pushed s x) ≡ held s ++ (x ∷ [])) → (xs : List Segment) (es : List drawings.Event) (b : B) (k : K) → held b ≡ xs
+      → Fewer (length (run_by_run F nib pattern xs es)) (length xs) (gather held capacity pushed asked b k es)
+  unfolding gather run_by_run
+  gathered_fewer grows xs [] b k is = record { less = omega (arith, ap (λ (ys : List Segment). length (run_actions F nib pattern false ys)) is); few = omega (arith, ap length is) }
+  gathered_fewer grows xs (drawings.asks q ∷ es) b k is = let f = gathered_fewer grows xs es b (asked k q.0 q.1) is in record { less = omega (arith, f.less); few = omega (arith, f.few) }
+  gathered_fewer grows xs (drawings.gives (End closed) ∷ es) b k is =
+      record { less = omega (arith, ap (λ (ys : List Segment). length (run_actions F nib pattern closed ys ++ (clears ∷ run_by_run F nib pattern [] es))) is); few = omega (arith, ap length is) }
+  gathered_fewer grows xs (drawings.gives (Line i l) ∷ es) b k is =
+      fewer_one (Line i l) (run_by_run F nib pattern (xs ++ (Line i l ∷ [])) es) b k es (omega (arith, ap length is))
+      (λ fits. let f = gathered_fewer grows (xs ++ (Line i l ∷ [])) es (pushed b (Line i l)) k (grows b (Line i l) (subst T (sym fits) tt) ∙ ap (λ (ys : List Segment). ys ++ (Line i l ∷ [])) is) in
+      record { less = f.less; few = omega (arith, f.few, length-append xs (Line i l ∷ [])) })
+  gathered_fewer grows xs (drawings.gives (Curve i c) ∷ es) b k is =
+      fewer_one (Curve i c) (run_by_run F nib pattern (xs ++ (Curve i c ∷ [])) es) b k es (omega (arith, ap length is))
+      (λ fits. let f = gathered_fewer grows (xs ++ (Curve i c ∷ [])) es (pushed b (Curve i c)) k (grows b (Curve i c) (subst T (sym fits) tt) ∙ ap (λ (ys : List Segment). ys ++ (Curve i c ∷ [])) is) in
+      record { less = f.less; few = omega (arith, f.few, length-append xs (Curve i c ∷ [])) })
+
+-- A run was collected, from a stroker that is to do all actions.
+module _ {S B K : Type 0} (meaning : S → Meaning) (took : S → Command → S) (held : B → List Segment) (capacity : B → ℕ) (cleared : B → B) (pushed : B → Segment → B) (asked : K → Function → Float → K) where
+  pub record Ran (functions : K → Functions) (pattern : Option Dashes) (a : Stroker S B K) (all : List Action) (c : Stroker S B K) (r : Result (Option Bool) Full) (es : List drawings.Event) : Type 0 where
+    pub whole : let left = left_over held (functions a.outliner.host.now) a.outliner.nib pattern c.storage.now r es in
+        run meaning took held capacity cleared pushed asked c.steps.budget left (stage_of c (stop_at r None)) ≡ run meaning took held capacity cleared pushed asked a.steps.budget all (stage_of a None)
+    pub kept : Kept a c
+    pub same : functions c.outliner.host.now ≡ functions a.outliner.host.now
+    pub fits : FitsAll c (left_over held (functions a.outliner.host.now) a.outliner.nib pattern c.storage.now r es)
+    pub few : length (held c.storage.now) < 2 ^ 63
+
+module _ {S B K : Type 0} {meaning : S → Meaning} {took : S → Command → S} {held : B → List Segment} {capacity : B → ℕ} {cleared : B → B} {pushed : B → Segment → B} {asked : K → Function → Float → K} where
+  pub collects : (functions : K → Functions) → ((s : K) (f : Function) (x : Float) → functions (asked s f x) ≡ functions s)
+      → ((s : B) → held (cleared s) ≡ []) → ((s : B) (x : Segment) → T (room (held s) (capacity s)) → held (pushed s x) ≡ held s ++ (x ∷ []))
+      → (pattern : Option Dashes) (given left : Functions → List drawings.Event) {a b : Stroker S B K} {o : Outliner S K} {s : B} {all : List Action} {r : Result (Option Bool) Full}
+      → Leads meaning took held capacity cleared pushed asked a all b (clears ∷ run_by_run (functions a.outliner.host.now) a.outliner.nib pattern [] (given (functions a.outliner.host.now)))
+      → collected s o.host.now r (left (functions b.outliner.host.now)) ≡ gather held capacity pushed asked (cleared b.storage.now) b.outliner.host.now (given (functions b.outliner.host.now))
+      → functions o.host.now ≡ functions b.outliner.host.now → Undrawn b.outliner o
+      → Ran meaning took held capacity cleared pushed asked functions pattern a all (with_run b o s) r (left (functions a.outliner.host.now))
+  unfolding perform
+  collects functions same empties grows pattern given left {a = a} {b = b} {o = o} {s = s} {all = all} {r = r} l is alike u =
+      let F = functions a.outliner.host.now in
+      let nib = a.outliner.nib in
+      let n = b.steps.budget in
+      let es = given F in
+      let by = leads_functions functions same l in
+      let is' : collected s o.host.now r (left F) ≡ gather held capacity pushed asked (cleared b.storage.now) b.outliner.host.now es =
+      (λ i. collected s o.host.now r (left (sym by i))) ∙ is ∙ (λ i. gather held capacity pushed asked (cleared b.storage.now) b.outliner.host.now (given (by i))) in
+      let there = gathered meaning took held capacity cleared pushed asked F nib pattern n grows [] es (cleared b.storage.now) b.outliner.host.now (stage_of b None) refl (empties b.storage.now) in
+      let fewer = gathered_fewer meaning took held capacity cleared pushed asked F nib pattern n grows [] es (cleared b.storage.now) b.outliner.host.now (empties b.storage.now) in
+      let f = subst (Fewer meaning took held capacity cleared pushed asked F nib pattern n (length (run_by_run F nib pattern [] es)) 0) (sym is') fewer in
+      record {
+        whole = (λ i. run meaning took held capacity cleared pushed asked n (left_over held F nib pattern s r (left F))
+            (record { sink = u.sink i; storage = s; host = o.host.now; sent = u.sent i; taken = b.steps.taken; ended = b.ended; stop = stop_at r None }))
+            ∙ ap (after_collecting meaning took held capacity cleared pushed asked F nib pattern n (stage_of b None)) is' ∙ sym there ∙ l.whole;
+        kept = kept_then l.kept (record { outliner = u.same; storage = refl; budget = refl });
+        same = alike ∙ by;
+        fits = omega (arith, f.less, l.fits, u.sent);
+        few = omega (arith, f.few, l.fits);
+      }
+
+  -- up to an end: it is read, the run is drawn, and the rest follows
+  pub ran_to_end : (functions : K → Functions) (pattern : Option Dashes) (closed : Bool) {a c : Stroker S B K} {all : List Action} {r : Result (Option Bool) Full} {es : List drawings.Event} → Ran meaning took held capacity cleared pushed asked functions pattern a all c r es → r ≡ Ok (Some closed)
+      → Leads meaning took held capacity cleared pushed asked a all c
+      ((ends ∷ run_actions (functions c.outliner.host.now) c.outliner.nib pattern closed (held c.storage.now)) ++ (clears ∷ run_by_run (functions a.outliner.host.now) a.outliner.nib pattern [] es))
+  ran_to_end functions pattern closed {a = a} {c = c} {r = r} {es = es} ran is =
+      let these = ap (λ (r : Result (Option Bool) Full). left_over held (functions a.outliner.host.now) a.outliner.nib pattern c.storage.now r es) is
+      ∙ (λ i. (ends ∷ run_actions (sym ran.same i) (sym ran.kept.outliner.nib i) pattern closed (held c.storage.now)) ++ (clears ∷ run_by_run (functions a.outliner.host.now) a.outliner.nib pattern [] es)) in
+      record {
+        whole = (λ i. run meaning took held capacity cleared pushed asked c.steps.budget (sym these i) (stage_of c (stop_at (sym is i) None))) ∙ ran.whole;
+        kept = ran.kept;
+        fits = omega (arith, ran.fits, ap length these);
+      }
+
+  pub end_fits : (functions : K → Functions) (pattern : Option Dashes) (closed : Bool) {a c : Stroker S B K} {all : List Action} {r : Result (Option Bool) Full} {es : List drawings.Event} → Ran meaning took held capacity cleared pushed asked functions pattern a all c r es → r ≡ Ok (Some closed)
+      → FitsAll c (ends ∷ run_actions (functions c.outliner.host.now) c.outliner.nib pattern closed (held c.storage.now))
+  end_fits functions pattern closed {a = a} {c = c} {es = es} ran is =
+      next_fits (ends ∷ run_actions (functions c.outliner.host.now) c.outliner.nib pattern closed (held c.storage.now)) (clears ∷ run_by_run (functions a.outliner.host.now) a.outliner.nib pattern [] es) refl (ran_to_end functions pattern closed ran is)
+
+  -- up to the end of the commands: the run is drawn
+  pub ran_out : (functions : K → Functions) (pattern : Option Dashes) {a c : Stroker S B K} {all : List Action} {r : Result (Option Bool) Full} {es : List drawings.Event} → Ran meaning took held capacity cleared pushed asked functions pattern a all c r es → r ≡ Ok None
+      → Leads meaning took held capacity cleared pushed asked a all c (run_actions (functions c.outliner.host.now) c.outliner.nib pattern false (held c.storage.now))
+  ran_out functions pattern {a = a} {c = c} {r = r} {es = es} ran is =
+      let these = ap (λ (r : Result (Option Bool) Full). left_over held (functions a.outliner.host.now) a.outliner.nib pattern c.storage.now r es) is
+      ∙ (λ i. run_actions (sym ran.same i) (sym ran.kept.outliner.nib i) pattern false (held c.storage.now)) in
+      record {
+        whole = (λ i. run meaning took held capacity cleared pushed asked c.steps.budget (sym these i) (stage_of c (stop_at (sym is i) None))) ∙ ran.whole;
+        kept = ran.kept;
+        fits = omega (arith, ran.fits, ap length these);
+      }
+
+  -- up to a segment that the storage refused
+  pub ran_full : (functions : K → Functions) (pattern : Option Dashes) {a c : Stroker S B K} {all : List Action} {r : Result (Option Bool) Full} {es : List drawings.Event} → Ran meaning took held capacity cleared pushed asked functions pattern a all c r es → is_err r ≡ true
+      → Performed meaning took held capacity cleared pushed asked a c all (Some StorageFull)
+  unfolding perform
+  ran_full functions pattern {r = Ok end} ran wrong = absurd cc
+  ran_full functions pattern {r = Err e} ran refused = record { performed = ran.whole; kept = ran.kept }

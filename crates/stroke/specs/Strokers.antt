@@ -1,10 +1,13 @@
 -- What a stroker has done.
-use Rattle.std.specs.Prelude.{◌≡◌, ℕ, ◌+◌, ◌^◌, ◌<◌, List, length, Some, None, Option, Ok, Err, Result, Float}
+use Rattle.std.specs.Prelude.{◌≡◌, ℕ, ◌+◌, ◌^◌, ◌<◌, Bool, List, length, Some, None, Option, Ok, Err, Result, Float}
 use Rattle.maths.specs.declared.host.Function.{Function}
 use Rattle.path.specs.declared.command.Command.{Command}
 use Rattle.path.specs.declared.refusal.Reason.{Reason}
+use Rattle.path.specs.declared.refusal.Reason.TheVariants.{StorageFull}
 use Rattle.segments.specs.declared.segment.Segment.{Segment}
 use Rattle.sinks.specs.Meaning.{Meaning}
+use Rattle.lent.specs.declared.Full.{Full}
+use Rattle.stroke.specs.declared.outliner.Outliner.{Outliner}
 use Rattle.stroke.specs.declared.stroker.Stroker.{Stroker}
 use Rattle.stroke.specs.Calls.{Action}
 use Rattle.stroke.specs.Outcomes.{Stage, perform}
@@ -21,6 +24,17 @@ stage_of s stop = record { sink = s.outliner.sink.now; storage = s.storage.now; 
 abbrev pub stop_of : {X : Type 0} → Result X Reason → Option Reason
 stop_of (Ok x) = None
 stop_of (Err why) = Some why
+
+-- what collecting a run answers, with a refusal that is the stroke's
+abbrev pub taken_in : Result (Option Bool) Full → Result (Option Bool) Reason
+taken_in (Ok end) = Ok end
+taken_in (Err e) = Err StorageFull
+
+-- an outliner has drawn nothing, whatever it asked
+pub record Undrawn {S K : Type 0} (a b : Outliner S K) : Type 0 where
+  pub sink : b.sink.now ≡ a.sink.now
+  pub sent : b.sent ≡ a.sent
+  pub same : Same a b
 
 -- a stroker keeps its references, its nib and its budget
 pub record Kept {S B K : Type 0} (a b : Stroker S B K) : Type 0 where

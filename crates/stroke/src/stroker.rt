@@ -1,13 +1,26 @@
-ghost use Rattle.std.specs.Prelude.{◌≡◌, [], ◌∷◌, map, is_ok};
-ghost use Rattle.stroke.specs.Calls.{draws, steps as one_step};
+ghost use Rattle.std.specs.Prelude.{◌≡◌, ◌^◌, ◌<◌, ◌≤◌, [], ◌∷◌, map, length, Bool, true, is_ok, Some, Ok, option_map, neg_ℤ, pos, ◌≤ℤ◌, ◌<ℤ◌};
+ghost use Rattle.cursor.specs.Cursors.{seen, rest};
+ghost use Rattle.cursor.specs.Drawings.{still, drawn_whole};
+ghost use Rattle.cursor.specs.Giving.{left};
+ghost use Rattle.dashes.specs.PatternValues.{values};
+ghost use Rattle.dashes.specs.StepCounts.{most_steps};
+ghost use Rattle.dashes.specs.Walks.{Within, emits};
+ghost use Rattle.stroke.specs.Calls.{clears, ends, draws, steps as one_step, twice_place, dash_actions, run_actions, run_by_run};
+ghost use Rattle.stroke.specs.Collecting.{collected, gather};
 ghost use Rattle.stroke.specs.Outcomes.{why_not};
 ghost use Rattle.stroke.specs.Outlines.{outline};
-ghost use Rattle.stroke.specs.Strokers.{FitsAll, Performed, stop_of};
+ghost use Rattle.stroke.specs.Strokers.{FitsAll, Performed, stop_of, Undrawn, taken_in};
 
+use crate::collect::collect;
 use crate::outliner::Outliner;
 use crate::row::Run;
+use cursor::cursor::Segments;
+use dashes::dasher::{DashOp, Dasher, Range};
+use dashes::pattern::Pattern;
 use dashes::steps::Steps;
+use lent::Full;
 use maths::host::MathsHost;
+use path::command::Command;
 use path::refusal::Reason;
 use sinks::sink::{Refused, Sink};
 use storage::storage::Storage;
@@ -32,10 +45,53 @@ fn refused_by_sink(r: Result<(), Refused>) -> Result<(), Reason>
     }
 }
 
+// Of a place on a run of so many segments, counted from the run's end where it is below 0, the place in
+// the run written twice.
+fn twice_place(len: usize, place: isize) -> usize
+    requires low { neg_ℤ (pos len) ≤ℤ place }
+    requires high { place <ℤ pos len }
+    requires few { len < 2 ^ 63 }
+    ensures { result ≡ twice_place len place }
+{
+    if place < 0 {
+        len - place.unsigned_abs()
+    } else {
+        len + place as usize
+    }
+}
+
+// What a storage's refusal means for a stroke.
+fn refused_by_storage(r: Result<Option<bool>, Full>) -> Result<Option<bool>, Reason>
+    ensures { result ≡ taken_in r }
+{
+    match r {
+        Ok(end) => Ok(end),
+        Err(_) => Err(Reason::StorageFull),
+    }
+}
+
+impl<'a, S: Sink, K: MathsHost> Outliner<'a, S, K> {
+    // The next run into a storage; nothing is drawn.
+    fn collect_run<B: Storage>(
+        &mut self,
+        cursor: &mut Segments,
+        commands: &[Command],
+        storage: &mut B,
+    ) -> Result<Option<bool>, Full>
+        ensures whole { collected storage.new self.new.host.now result (still (K.functions self.old.host.now) (seen cursor.new) (rest cursor.new commands.now)) ≡ gather B.held B.capacity B.pushed K.asked (B.cleared storage.old) self.old.host.now (still (K.functions self.old.host.now) (seen cursor.old) (rest cursor.old commands.now)) }
+        ensures functions { K.functions self.new.host.now ≡ K.functions self.old.host.now }
+        ensures falls { (closed : Bool) → result ≡ Ok (Some closed) → left (seen cursor.new) (rest cursor.new commands.now) < left (seen cursor.old) (rest cursor.old commands.now) }
+        ensures undrawn { Undrawn self.old self.new }
+    {
+        collect(cursor, commands, storage, self.host)
+    }
+}
+
 impl<'a, S: Sink, B: Storage, K: MathsHost> Stroker<'a, S, B, K> {
     // One dash step.
     fn spend(&mut self) -> Result<(), Reason>
-        ensures { Performed S.meaning S.took B.held B.capacity B.cleared B.pushed K.asked self.old self.new (one_step ∷ []) (stop_of result) }
+        ensures performed { Performed S.meaning S.took B.held B.capacity B.cleared B.pushed K.asked self.old self.new (one_step ∷ []) (stop_of result) }
+        ensures stored { self.new.storage.now ≡ self.old.storage.now }
     {
         match self.steps.spend() {
             Ok(()) => Ok(()),
@@ -56,5 +112,96 @@ impl<'a, S: Sink, B: Storage, K: MathsHost> Stroker<'a, S, B, K> {
                 closed,
             ),
         )
+    }
+
+    // A dash of the run that the storage holds.
+    fn draw_dash(&mut self, range: Range) -> Result<(), Reason>
+        requires within { Within (length (B.held self.old.storage.now)) range }
+        requires few { length (B.held self.old.storage.now) < 2 ^ 63 }
+        requires room { FitsAll self.old (dash_actions (K.functions self.old.outliner.host.now) self.old.outliner.nib (B.held self.old.storage.now) (emits range)) }
+        ensures performed { Performed S.meaning S.took B.held B.capacity B.cleared B.pushed K.asked self.old self.new (dash_actions (K.functions self.old.outliner.host.now) self.old.outliner.nib (B.held self.old.storage.now) (emits range)) (stop_of result) }
+        ensures stored { self.new.storage.now ≡ self.old.storage.now }
+        ensures counted { self.new.steps ≡ self.old.steps }
+    {
+        let len = self.storage.len();
+        let from = twice_place(len, range.start);
+        let to = twice_place(len, range.end);
+        refused_by_sink(
+            self.outliner
+                .dash_segments(self.storage, from, to, range.t0, range.t1),
+        )
+    }
+
+    // The dashes of the run that the storage holds.
+    fn draw_dashed(&mut self, pattern: Pattern, closed: bool) -> Result<(), Reason>
+        requires some { 0 < length (B.held self.old.storage.now) }
+        requires few { length (B.held self.old.storage.now) < 2 ^ 63 }
+        requires budget { self.old.steps.budget ≤ most_steps }
+        requires room { FitsAll self.old (run_actions (K.functions self.old.outliner.host.now) self.old.outliner.nib (Some (values pattern)) closed (B.held self.old.storage.now)) }
+        ensures { Performed S.meaning S.took B.held B.capacity B.cleared B.pushed K.asked self.old self.new (run_actions (K.functions self.old.outliner.host.now) self.old.outliner.nib (Some (values pattern.entry)) closed (B.held self.old.storage.now)) (stop_of result) }
+    {
+        let mut dasher = Dasher::init(closed, pattern);
+        while dasher.seeks() {
+            self.spend()?;
+            dasher.seek();
+        }
+        loop {
+            self.spend()?;
+            match dasher.next(self.storage) {
+                DashOp::Done => return Ok(()),
+                DashOp::Continue => {}
+                DashOp::Emit(range) => self.draw_dash(range)?,
+                DashOp::Stroke => return self.draw_plain(true),
+            }
+        }
+    }
+
+    // The run that the storage holds, plain or with a pattern; an empty one does nothing.
+    fn draw_run(&mut self, pattern: Option<Pattern>, closed: bool) -> Result<(), Reason>
+        requires few { length (B.held self.old.storage.now) < 2 ^ 63 }
+        requires budget { self.old.steps.budget ≤ most_steps }
+        requires room { FitsAll self.old (run_actions (K.functions self.old.outliner.host.now) self.old.outliner.nib (option_map values pattern) closed (B.held self.old.storage.now)) }
+        ensures { Performed S.meaning S.took B.held B.capacity B.cleared B.pushed K.asked self.old self.new (run_actions (K.functions self.old.outliner.host.now) self.old.outliner.nib (option_map values pattern.entry) closed (B.held self.old.storage.now)) (stop_of result) }
+    {
+        if self.storage.len() == 0 {
+            return Ok(());
+        }
+        match pattern {
+            Some(pattern) => self.draw_dashed(pattern, closed),
+            None => self.draw_plain(closed),
+        }
+    }
+
+    // At an end that was read.
+    fn end_run(&mut self, pattern: Option<Pattern>, closed: bool) -> Result<(), Reason>
+        requires few { length (B.held self.old.storage.now) < 2 ^ 63 }
+        requires budget { self.old.steps.budget ≤ most_steps }
+        requires room { FitsAll self.old (ends ∷ run_actions (K.functions self.old.outliner.host.now) self.old.outliner.nib (option_map values pattern) closed (B.held self.old.storage.now)) }
+        ensures { Performed S.meaning S.took B.held B.capacity B.cleared B.pushed K.asked self.old self.new (ends ∷ run_actions (K.functions self.old.outliner.host.now) self.old.outliner.nib (option_map values pattern.entry) closed (B.held self.old.storage.now)) (stop_of result) }
+    {
+        self.ended += 1;
+        self.draw_run(pattern, closed)
+    }
+
+    // All that the commands give, run by run.
+    pub(crate) fn stroke(
+        &mut self,
+        commands: &[Command],
+        pattern: Option<Pattern>,
+    ) -> Result<(), Reason>
+        requires budget { self.old.steps.budget ≤ most_steps }
+        requires room { FitsAll self.old (clears ∷ run_by_run (K.functions self.old.outliner.host.now) self.old.outliner.nib (option_map values pattern) [] (drawn_whole (K.functions self.old.outliner.host.now) true commands.now)) }
+        ensures { Performed S.meaning S.took B.held B.capacity B.cleared B.pushed K.asked self.old self.new (clears ∷ run_by_run (K.functions self.old.outliner.host.now) self.old.outliner.nib (option_map values pattern.entry) [] (drawn_whole (K.functions self.old.outliner.host.now) true commands.now)) (stop_of result) }
+    {
+        let mut cursor = Segments::new(true);
+        loop {
+            let end = self
+                .outliner
+                .collect_run(&mut cursor, commands, self.storage);
+            match refused_by_storage(end)? {
+                Some(closed) => self.end_run(pattern, closed)?,
+                None => return self.draw_run(pattern, false),
+            }
+        }
     }
 }

@@ -4,12 +4,12 @@ use Rattle.dashes.specs.declared.steps.Spent.{Spent}
 use Rattle.stroke.proofs.Performing.{spend_performed}
 use Rattle.stroke.proofs.stroker.Stroker.spend.Goals as goal
 
-pub returns-in-Ok : goal.returns-in-Ok
-returns-in-Ok g c =
+pub returns-in-Ok-clause-performed : goal.returns-in-Ok-clause-performed
+returns-in-Ok-clause-performed g c =
     spend_performed g.S.Sink.meaning g.S.Sink.took g.B.Storage.held g.B.Storage.capacity g.B.Storage.cleared g.B.Storage.pushed g.K.MathsHost.asked c.spend.ensures.answer c.spend.ensures.after refl refl refl
     (sym (ap (λ (r : Result (Unit {0}) Spent). cond (is_ok r) None (Some StepsSpent)) c.in-Ok.is))
 
-pub returns-in-Err : goal.returns-in-Err
-returns-in-Err g c =
+pub returns-in-Err-clause-performed : goal.returns-in-Err-clause-performed
+returns-in-Err-clause-performed g c =
     spend_performed g.S.Sink.meaning g.S.Sink.took g.B.Storage.held g.B.Storage.capacity g.B.Storage.cleared g.B.Storage.pushed g.K.MathsHost.asked c.spend.ensures.answer c.spend.ensures.after refl refl refl
     (sym (ap (λ (r : Result (Unit {0}) Spent). cond (is_ok r) None (Some StepsSpent)) c.in-Err.is))
