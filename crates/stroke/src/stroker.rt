@@ -45,6 +45,16 @@ fn refused_by_sink(r: Result<(), Refused>) -> Result<(), Reason>
     }
 }
 
+// What a storage's refusal means for a stroke.
+fn refused_by_storage(r: Result<Option<bool>, Full>) -> Result<Option<bool>, Reason>
+    ensures { result ≡ taken_in r }
+{
+    match r {
+        Ok(end) => Ok(end),
+        Err(_) => Err(Reason::StorageFull),
+    }
+}
+
 // Of a place on a run of so many segments, counted from the run's end where it is below 0, the place in
 // the run written twice.
 fn twice_place(len: usize, place: isize) -> usize
@@ -57,16 +67,6 @@ fn twice_place(len: usize, place: isize) -> usize
         len - place.unsigned_abs()
     } else {
         len + place as usize
-    }
-}
-
-// What a storage's refusal means for a stroke.
-fn refused_by_storage(r: Result<Option<bool>, Full>) -> Result<Option<bool>, Reason>
-    ensures { result ≡ taken_in r }
-{
-    match r {
-        Ok(end) => Ok(end),
-        Err(_) => Err(Reason::StorageFull),
     }
 }
 
