@@ -1,3 +1,5 @@
 pub mod Drawn
 pub mod Messages
+pub mod Outlined
+pub mod Replayed
 pub mod Settings

@@ -1,4 +1,5 @@
 ghost use Rattle.std.specs.Prelude.{◌≡◌, IfOk};
+ghost use Rattle.lines.specs.Listing.{refusal_lines};
 ghost use Rattle.outlining.specs.Drawn.{answer_line, drawn_lines};
 
 use codec::item::Item;
@@ -33,4 +34,11 @@ pub fn drawn_lines<R: ReadableSink>(
     }
     lines.push(answer_line(answer))?;
     Ok(lines)
+}
+
+/// The line of a refusal alone.
+pub fn refusal_lines(heap: Global, refusal: Refusal) -> Result<Vec<Line>, AllocError>
+    ensures { IfOk result (λ v. v.items ≡ refusal_lines refusal) }
+{
+    Ok(vec![in heap; Line::Refused(refusal)]?)
 }

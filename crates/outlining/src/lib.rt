@@ -2,4 +2,6 @@
 #![tactic(auto)]
 
 pub mod drawn;
+pub mod outline;
+pub mod replay;
 pub mod setting;

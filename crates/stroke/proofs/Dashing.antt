@@ -89,7 +89,7 @@ module _ {S B K : Type 0} (meaning : S → Meaning) (took : S → Command → S)
   pub record Along (functions : K → Functions) (a : Stroker S B K) (all : List Action) (b : Stroker S B K) (events : ℕ → List DashEvent) : Type 0 where
     pub n : ℕ
     pub enough : b.steps.budget ≤ b.steps.taken + n
-    pub leads : Leads meaning took held capacity cleared pushed asked a all b (flat_map (dash_actions (functions a.outliner.host.now) a.outliner.nib (held a.storage.now)) (events n))
+    pub leads : Leads meaning took held capacity cleared pushed asked a all b (flat_map (dash_actions (functions a.host.now) a.nib (held a.storage.now)) (events n))
     pub stored : b.storage.now ≡ a.storage.now
 
 module _ {S B K : Type 0} {meaning : S → Meaning} {took : S → Command → S} {held : B → List Segment} {capacity : B → ℕ} {cleared : B → B} {pushed : B → Segment → B} {asked : K → Function → Float → K} where
@@ -108,13 +108,13 @@ module _ {S B K : Type 0} {meaning : S → Meaning} {took : S → Command → S}
 
   -- a step is asked for, whatever is left
   step_from : (functions : K → Functions) (after : ℕ → List DashEvent) {a b c : Stroker S B K} {all : List Action} (n : ℕ) {events : List DashEvent} → b.steps.budget ≤ b.steps.taken + n
-      → Leads meaning took held capacity cleared pushed asked a all b (flat_map (dash_actions (functions a.outliner.host.now) a.outliner.nib (held a.storage.now)) events) → b.storage.now ≡ a.storage.now → ((m : ℕ) → n ≡ suc m → events ≡ walks.steps ∷ after m)
+      → Leads meaning took held capacity cleared pushed asked a all b (flat_map (dash_actions (functions a.host.now) a.nib (held a.storage.now)) events) → b.storage.now ≡ a.storage.now → ((m : ℕ) → n ≡ suc m → events ≡ walks.steps ∷ after m)
       → Performed meaning took held capacity cleared pushed asked b c (steps ∷ []) None → c.storage.now ≡ b.storage.now → Along meaning took held capacity cleared pushed asked functions a all c after
   step_from functions after zero enough l kept more p stored = absurd (omega (arith, enough, (step_taken p).0))
   step_from functions after {a = a} (suc m) enough l kept more p stored = record {
     n = m;
     enough = omega (arith, enough, (step_taken p).1, p.kept.budget);
-    leads = goes_on (steps ∷ []) (flat_map (dash_actions (functions a.outliner.host.now) a.outliner.nib (held a.storage.now)) (after m)) (ap (flat_map (dash_actions (functions a.outliner.host.now) a.outliner.nib (held a.storage.now))) (more m refl)) l p;
+    leads = goes_on (steps ∷ []) (flat_map (dash_actions (functions a.host.now) a.nib (held a.storage.now)) (after m)) (ap (flat_map (dash_actions (functions a.host.now) a.nib (held a.storage.now))) (more m refl)) l p;
     stored = stored ∙ kept;
   }
 
@@ -123,10 +123,10 @@ module _ {S B K : Type 0} {meaning : S → Meaning} {took : S → Command → S}
   step_along functions before after more along p stored = step_from functions after along.n along.enough along.leads along.stored (λ m is. ap before is ∙ more m) p stored
 
   step_stops : (functions : K → Functions) (before after : ℕ → List DashEvent) (why : Reason) → before 0 ≡ walks.steps ∷ [] → ((m : ℕ) → before (suc m) ≡ walks.steps ∷ after m) → {a b c : Stroker S B K} {all : List Action} (n : ℕ)
-      → Leads meaning took held capacity cleared pushed asked a all b (flat_map (dash_actions (functions a.outliner.host.now) a.outliner.nib (held a.storage.now)) (before n)) → Performed meaning took held capacity cleared pushed asked b c (steps ∷ []) (Some why) → Performed meaning took held capacity cleared pushed asked a c all (Some why)
-  step_stops functions before after why last more {a = a} zero l p = ends_refused why (steps ∷ []) [] (ap (flat_map (dash_actions (functions a.outliner.host.now) a.outliner.nib (held a.storage.now))) last) l p
+      → Leads meaning took held capacity cleared pushed asked a all b (flat_map (dash_actions (functions a.host.now) a.nib (held a.storage.now)) (before n)) → Performed meaning took held capacity cleared pushed asked b c (steps ∷ []) (Some why) → Performed meaning took held capacity cleared pushed asked a c all (Some why)
+  step_stops functions before after why last more {a = a} zero l p = ends_refused why (steps ∷ []) [] (ap (flat_map (dash_actions (functions a.host.now) a.nib (held a.storage.now))) last) l p
   step_stops functions before after why last more {a = a} (suc m) l p =
-      let f = dash_actions (functions a.outliner.host.now) a.outliner.nib (held a.storage.now) in
+      let f = dash_actions (functions a.host.now) a.nib (held a.storage.now) in
       ends_refused why (steps ∷ []) (flat_map f (after m)) (ap (flat_map f) (more m)) l p
 
   pub step_refused : (functions : K → Functions) (before after : ℕ → List DashEvent) (why : Reason) → before 0 ≡ walks.steps ∷ [] → ((m : ℕ) → before (suc m) ≡ walks.steps ∷ after m) → {a b c : Stroker S B K} {all : List Action}
@@ -138,60 +138,60 @@ module _ {S B K : Type 0} {meaning : S → Meaning} {took : S → Command → S}
   along_by functions before after is {a = a} {b = b} {all = all} along = record {
     n = along.n;
     enough = along.enough;
-    leads = subst (λ (es : List DashEvent). Leads meaning took held capacity cleared pushed asked a all b (flat_map (dash_actions (functions a.outliner.host.now) a.outliner.nib (held a.storage.now)) es)) (is along.n) along.leads;
+    leads = subst (λ (es : List DashEvent). Leads meaning took held capacity cleared pushed asked a all b (flat_map (dash_actions (functions a.host.now) a.nib (held a.storage.now)) es)) (is along.n) along.leads;
     stored = along.stored;
   }
 
   -- before the first step
   pub walk_begins : (functions : K → Functions) (a : Stroker S B K) (p : Dashes) (closed : Bool) (d : Dasher) → 0 < length (held a.storage.now) → a.steps.budget ≤ most_steps → values d.pattern ≡ p → d.walk ≡ begun p closed
-      → (let all = run_actions (functions a.outliner.host.now) a.outliner.nib (Some p) closed (held a.storage.now) in FitsAll a all → Along meaning took held capacity cleared pushed asked functions a all a (λ n. dash_walk n d (held a.storage.now)))
+      → (let all = run_actions (functions a.host.now) a.nib (Some p) closed (held a.storage.now) in FitsAll a all → Along meaning took held capacity cleared pushed asked functions a all a (λ n. dash_walk n d (held a.storage.now)))
   walk_begins functions a p closed d some admitted pattern walk fits =
-      let F = functions a.outliner.host.now in
+      let F = functions a.host.now in
       let xs = held a.storage.now in
       record {
         n = most_steps;
         enough = omega (arith, admitted);
-        leads = starts_with a ((λ i. flat_map (dash_actions F a.outliner.nib xs) (seeking most_steps (pattern i) xs (seeks (pattern i) (walk i)) (walk i))) ∙ sym (dashed_run F a.outliner.nib p closed xs some)) fits;
+        leads = starts_with a ((λ i. flat_map (dash_actions F a.nib xs) (seeking most_steps (pattern i) xs (seeks (pattern i) (walk i)) (walk i))) ∙ sym (dashed_run F a.nib p closed xs some)) fits;
         stored = refl;
       }
 
   -- what the contracts say of the stroker at hand is what is left
   at_hand : (functions : K → Functions) → ((s : K) (f : Function) (x : Float) → functions (asked s f x) ≡ functions s) → {a b : Stroker S B K} {all : List Action} {events : ℕ → List DashEvent} (e : DashEvent) → Along meaning took held capacity cleared pushed asked functions a all b events
-      → dash_actions (functions b.outliner.host.now) b.outliner.nib (held b.storage.now) e ≡ dash_actions (functions a.outliner.host.now) a.outliner.nib (held a.storage.now) e
+      → dash_actions (functions b.host.now) b.nib (held b.storage.now) e ≡ dash_actions (functions a.host.now) a.nib (held a.storage.now) e
   at_hand functions same e along = λ i. dash_actions (leads_functions functions same along.leads i) (along.leads.kept.outliner.nib i) (held (along.stored i)) e
 
   one_event : (functions : K → Functions) → ((s : K) (f : Function) (x : Float) → functions (asked s f x) ≡ functions s) → (before after : ℕ → List DashEvent) (e : DashEvent) → ((n : ℕ) → before n ≡ e ∷ after n) → {a b : Stroker S B K} {all : List Action}
       → (along : Along meaning took held capacity cleared pushed asked functions a all b before)
-      → (let f = dash_actions (functions a.outliner.host.now) a.outliner.nib (held a.storage.now) in flat_map f (before along.n) ≡ dash_actions (functions b.outliner.host.now) b.outliner.nib (held b.storage.now) e ++ flat_map f (after along.n))
+      → (let f = dash_actions (functions a.host.now) a.nib (held a.storage.now) in flat_map f (before along.n) ≡ dash_actions (functions b.host.now) b.nib (held b.storage.now) e ++ flat_map f (after along.n))
   one_event functions same before after e is {a = a} along =
-      let f = dash_actions (functions a.outliner.host.now) a.outliner.nib (held a.storage.now) in
+      let f = dash_actions (functions a.host.now) a.nib (held a.storage.now) in
       ap (flat_map f) (is along.n) ∙ ap (λ (l : List Action). l ++ flat_map f (after along.n)) (sym (at_hand functions same e along))
 
   -- a dash is given
   pub dash_fits : (functions : K → Functions) → ((s : K) (f : Function) (x : Float) → functions (asked s f x) ≡ functions s) → (before after : ℕ → List DashEvent) (e : DashEvent) → ((n : ℕ) → before n ≡ e ∷ after n) → {a b : Stroker S B K} {all : List Action}
-      → Along meaning took held capacity cleared pushed asked functions a all b before → FitsAll b (dash_actions (functions b.outliner.host.now) b.outliner.nib (held b.storage.now) e)
+      → Along meaning took held capacity cleared pushed asked functions a all b before → FitsAll b (dash_actions (functions b.host.now) b.nib (held b.storage.now) e)
   dash_fits functions same before after e is {a = a} {b = b} along =
-      next_fits (dash_actions (functions b.outliner.host.now) b.outliner.nib (held b.storage.now) e) (flat_map (dash_actions (functions a.outliner.host.now) a.outliner.nib (held a.storage.now)) (after along.n)) (one_event functions same before after e is along) along.leads
+      next_fits (dash_actions (functions b.host.now) b.nib (held b.storage.now) e) (flat_map (dash_actions (functions a.host.now) a.nib (held a.storage.now)) (after along.n)) (one_event functions same before after e is along) along.leads
 
   pub dash_along : (functions : K → Functions) → ((s : K) (f : Function) (x : Float) → functions (asked s f x) ≡ functions s) → (before after : ℕ → List DashEvent) (e : DashEvent) → ((n : ℕ) → before n ≡ e ∷ after n) → {a b c : Stroker S B K} {all : List Action}
-      → Along meaning took held capacity cleared pushed asked functions a all b before → Performed meaning took held capacity cleared pushed asked b c (dash_actions (functions b.outliner.host.now) b.outliner.nib (held b.storage.now) e) None → c.storage.now ≡ b.storage.now → c.steps ≡ b.steps
+      → Along meaning took held capacity cleared pushed asked functions a all b before → Performed meaning took held capacity cleared pushed asked b c (dash_actions (functions b.host.now) b.nib (held b.storage.now) e) None → c.storage.now ≡ b.storage.now → c.steps ≡ b.steps
       → Along meaning took held capacity cleared pushed asked functions a all c after
   dash_along functions same before after e is {a = a} {b = b} along p stored counted = record {
     n = along.n;
     enough = omega (arith, along.enough, ap (λ (s : Steps). s.budget) counted, ap (λ (s : Steps). s.taken) counted);
-    leads = goes_on (dash_actions (functions b.outliner.host.now) b.outliner.nib (held b.storage.now) e) (flat_map (dash_actions (functions a.outliner.host.now) a.outliner.nib (held a.storage.now)) (after along.n)) (one_event functions same before after e is along) along.leads p;
+    leads = goes_on (dash_actions (functions b.host.now) b.nib (held b.storage.now) e) (flat_map (dash_actions (functions a.host.now) a.nib (held a.storage.now)) (after along.n)) (one_event functions same before after e is along) along.leads p;
     stored = stored ∙ along.stored;
   }
 
   pub dash_refused : (functions : K → Functions) → ((s : K) (f : Function) (x : Float) → functions (asked s f x) ≡ functions s) → (before after : ℕ → List DashEvent) (e : DashEvent) (why : Reason) → ((n : ℕ) → before n ≡ e ∷ after n) → {a b c : Stroker S B K} {all : List Action}
-      → Along meaning took held capacity cleared pushed asked functions a all b before → Performed meaning took held capacity cleared pushed asked b c (dash_actions (functions b.outliner.host.now) b.outliner.nib (held b.storage.now) e) (Some why) → Performed meaning took held capacity cleared pushed asked a c all (Some why)
+      → Along meaning took held capacity cleared pushed asked functions a all b before → Performed meaning took held capacity cleared pushed asked b c (dash_actions (functions b.host.now) b.nib (held b.storage.now) e) (Some why) → Performed meaning took held capacity cleared pushed asked a c all (Some why)
   dash_refused functions same before after e why is {a = a} {b = b} along p =
-      ends_refused why (dash_actions (functions b.outliner.host.now) b.outliner.nib (held b.storage.now) e) (flat_map (dash_actions (functions a.outliner.host.now) a.outliner.nib (held a.storage.now)) (after along.n)) (one_event functions same before after e is along) along.leads p
+      ends_refused why (dash_actions (functions b.host.now) b.nib (held b.storage.now) e) (flat_map (dash_actions (functions a.host.now) a.nib (held a.storage.now)) (after along.n)) (one_event functions same before after e is along) along.leads p
 
   -- the last of the walk
   pub last_dash : (functions : K → Functions) → ((s : K) (f : Function) (x : Float) → functions (asked s f x) ≡ functions s) → (before : ℕ → List DashEvent) (e : DashEvent) → ((n : ℕ) → before n ≡ e ∷ []) → {a b c : Stroker S B K} {all : List Action} {stop : Option Reason}
-      → Along meaning took held capacity cleared pushed asked functions a all b before → Performed meaning took held capacity cleared pushed asked b c (dash_actions (functions b.outliner.host.now) b.outliner.nib (held b.storage.now) e) stop → Performed meaning took held capacity cleared pushed asked a c all stop
-  last_dash functions same before e is {b = b} along p = ends_with (sym (one_event functions same before (λ n. []) e is along ∙ append-nil (dash_actions (functions b.outliner.host.now) b.outliner.nib (held b.storage.now) e))) along.leads p
+      → Along meaning took held capacity cleared pushed asked functions a all b before → Performed meaning took held capacity cleared pushed asked b c (dash_actions (functions b.host.now) b.nib (held b.storage.now) e) stop → Performed meaning took held capacity cleared pushed asked a c all stop
+  last_dash functions same before e is {b = b} along p = ends_with (sym (one_event functions same before (λ n. []) e is along ∙ append-nil (dash_actions (functions b.host.now) b.nib (held b.storage.now) e))) along.leads p
 
   pub walk_over : (functions : K → Functions) (before : ℕ → List DashEvent) → ((n : ℕ) → before n ≡ []) → {a b : Stroker S B K} {all : List Action} → Along meaning took held capacity cleared pushed asked functions a all b before → Performed meaning took held capacity cleared pushed asked a b all None
-  walk_over functions before is {a = a} along = ends_there (ap (flat_map (dash_actions (functions a.outliner.host.now) a.outliner.nib (held a.storage.now))) (is along.n)) along.leads
+  walk_over functions before is {a = a} along = ends_there (ap (flat_map (dash_actions (functions a.host.now) a.nib (held a.storage.now))) (is along.n)) along.leads

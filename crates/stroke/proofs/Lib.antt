@@ -1,6 +1,7 @@
 mod Added
 mod Blocks
 mod Bounds
+mod Calling
 mod Collecting
 mod Contours
 mod Dashing

@@ -28,7 +28,7 @@ use Rattle.stroke.specs.Collecting.{Collected, collected, gather}
 use Rattle.stroke.specs.Calls.{Action, clears, stores, ends, steps, works_out, draws, run_actions, run_by_run}
 use Rattle.stroke.specs.Outcomes.{Stage, why_not, after_draw, act_on, perform}
 use Rattle.stroke.specs.Outliners.{Drew}
-use Rattle.stroke.specs.Strokers.{FitsAll, stage_of, Kept, Performed, Undrawn, taken_in, stop_of}
+use Rattle.stroke.specs.Strokers.{outliner_of, FitsAll, stage_of, Kept, Performed, Undrawn, taken_in, stop_of}
 
 kept_self : {S B K : Type 0} (a : Stroker S B K) → Kept a a
 kept_self a = record { outliner = record { sink = refl; host = refl; nib = refl }; storage = refl; budget = refl }
@@ -92,12 +92,14 @@ module _ {S B K : Type 0} (meaning : S → Meaning) (took : S → Command → S)
   plays n (e ∷ es) d x = ap (run n (map draws es)) (draws_then n e x.sink x.host x.sent x.going d) ∙ plays n es d (then meaning took asked e x)
 
   -- what an outliner has drawn, its stroker has done
-  pub drew_performed : {a b : Stroker S B K} {es : List Event} {going : Bool} {stop : Option Reason} → Drew meaning took asked a.outliner b.outliner es going → b.storage.now ≡ a.storage.now → b.storage.ghost_name ≡ a.storage.ghost_name
-      → b.steps ≡ a.steps → b.ended ≡ a.ended → stop ≡ why_not going → Performed meaning took held capacity cleared pushed asked a b (map draws es) stop
-  drew_performed {a = a} {b = b} {es = es} {going = going} d storage name taken ended stop = record {
-    performed = (λ i. record { sink = b.outliner.sink.now; storage = storage i; host = b.outliner.host.now; sent = b.outliner.sent; taken = (taken i).taken; ended = ended i; stop = stop i })
-        ∙ ap (drawn (stage_of a None)) d.played ∙ sym (plays a.steps.budget es (stage_of a None) (drawing a.outliner.sink.now a.outliner.host.now a.outliner.sent true));
-    kept = record { outliner = d.same; storage = name; budget = ap (λ (s : Steps). s.budget) taken };
+  pub lent_performed : {a b : Stroker S B K} {o p : Outliner S K} {es : List Event} {going : Bool} {stop : Option Reason} → Drew meaning took asked o p es going
+      → o.sink.now ≡ a.sink.now → o.host.now ≡ a.host.now → o.sent ≡ a.sent → b.sink.now ≡ p.sink.now → b.host.now ≡ p.host.now → b.sent ≡ p.sent
+      → b.storage.now ≡ a.storage.now → b.steps ≡ a.steps → b.ended ≡ a.ended → stop ≡ why_not going → Kept a b → Performed meaning took held capacity cleared pushed asked a b (map draws es) stop
+  lent_performed {a = a} {b = b} {o = o} {p = p} {es = es} {going = going} d sink host sent sunk hosted counted storage taken ended stop kept = record {
+    performed = (λ i. record { sink = sunk i; storage = storage i; host = hosted i; sent = counted i; taken = (taken i).taken; ended = ended i; stop = stop i })
+        ∙ ap (drawn (stage_of a None)) d.played ∙ (λ i. drawn (stage_of a None) (play meaning took asked es (drawing (sink i) (host i) (sent i) true)))
+        ∙ sym (plays a.steps.budget es (stage_of a None) (drawing a.sink.now a.host.now a.sent true));
+    kept = kept;
   }
 
   -- a step that was spent
@@ -110,7 +112,7 @@ module _ {S B K : Type 0} (meaning : S → Meaning) (took : S → Command → S)
   less_or_all : (m n : ℕ) → nat_lt m n ≡ not (nat_le n m)
   less_or_all m n = cond_both (nat_le n m) true false (λ _. nat_lt m n ≡ not (nat_le n m)) (λ e. le-ltb m n (leb-true n m e) ∙ ap not (sym e)) (λ e. lt-ltb m n (leb-false n m e) ∙ ap not (sym e))
 
-  pub spend_performed : {a b : Stroker S B K} {stop : Option Reason} {r : Result (Unit {0}) Spent} → r ≡ spend_answer a.steps → b.steps ≡ spent_one a.steps → b.outliner ≡ a.outliner → b.storage ≡ a.storage → b.ended ≡ a.ended
+  pub spend_performed : {a b : Stroker S B K} {stop : Option Reason} {r : Result (Unit {0}) Spent} → r ≡ spend_answer a.steps → b.steps ≡ spent_one a.steps → outliner_of b ≡ outliner_of a → b.storage ≡ a.storage → b.ended ≡ a.ended
       → stop ≡ cond (is_ok r) None (Some StepsSpent) → Performed meaning took held capacity cleared pushed asked a b (steps ∷ []) stop
   unfolding perform
   spend_performed {a = a} {b = b} {r = r} answer taken outliner storage ended stop = record {
@@ -202,11 +204,11 @@ module _ {S B K : Type 0} {meaning : S → Meaning} {took : S → Command → S}
   next_fits acts rest split l = omega (arith, l.fits, ap length split, length-append acts rest)
 
   pub functions_stay : (functions : K → Functions) → ((s : K) (f : Function) (x : Float) → functions (asked s f x) ≡ functions s) → {a b : Stroker S B K} {acts : List Action} {stop : Option Reason}
-      → Performed meaning took held capacity cleared pushed asked a b acts stop → functions b.outliner.host.now ≡ functions a.outliner.host.now
+      → Performed meaning took held capacity cleared pushed asked a b acts stop → functions b.host.now ≡ functions a.host.now
   functions_stay functions same {a = a} {acts = acts} p = ap (λ (d : Stage S B K). functions d.host) p.performed ∙ run_same meaning took held capacity cleared pushed asked functions same a.steps.budget acts (stage_of a None)
 
   -- reading an end
-  pub end_performed : {a b : Stroker S B K} → b.outliner ≡ a.outliner → b.storage ≡ a.storage → b.steps ≡ a.steps → b.ended ≡ a.ended + 1 → Performed meaning took held capacity cleared pushed asked a b (ends ∷ []) None
+  pub end_performed : {a b : Stroker S B K} → outliner_of b ≡ outliner_of a → b.storage ≡ a.storage → b.steps ≡ a.steps → b.ended ≡ a.ended + 1 → Performed meaning took held capacity cleared pushed asked a b (ends ∷ []) None
   unfolding perform
   end_performed {a = a} {b = b} outliner storage taken ended = record {
     performed = λ i. record { sink = (outliner i).sink.now; storage = (storage i).now; host = (outliner i).host.now; sent = (outliner i).sent; taken = (taken i).taken; ended = ended i; stop = None };
@@ -218,7 +220,7 @@ module _ {S B K : Type 0} {meaning : S → Meaning} {took : S → Command → S}
   }
 
   pub leads_functions : (functions : K → Functions) → ((s : K) (f : Function) (x : Float) → functions (asked s f x) ≡ functions s) → {a b : Stroker S B K} {all left : List Action}
-      → Leads meaning took held capacity cleared pushed asked a all b left → functions b.outliner.host.now ≡ functions a.outliner.host.now
+      → Leads meaning took held capacity cleared pushed asked a all b left → functions b.host.now ≡ functions a.host.now
   leads_functions functions same {a = a} {b = b} {all = all} {left = left} l =
       sym (run_same meaning took held capacity cleared pushed asked functions same b.steps.budget left (stage_of b None)) ∙ ap (λ (d : Stage S B K). functions d.host) l.whole
       ∙ run_same meaning took held capacity cleared pushed asked functions same a.steps.budget all (stage_of a None)
@@ -254,7 +256,11 @@ left_over held F nib pattern b (Err e) es = []
 
 -- a stroker whose outliner went on, with another run in its storage
 abbrev pub with_run : {S B K : Type 0} → Stroker S B K → Outliner S K → B → Stroker S B K
-with_run a o s = record a { outliner = o; storage = record a.storage { now = s } }
+with_run a o s = record a { sink = o.sink; host = o.host; sent = o.sent; nib = o.nib; storage = record a.storage { now = s } }
+
+-- while a run is collected only the host is asked
+pub only_asked : {S B K : Type 0} (a : Stroker S B K) (k : K) → Undrawn (outliner_of a) (record (outliner_of a) { host = record a.host { now = k } })
+only_asked a k = record { sink = refl; sent = refl; same = record { sink = refl; host = refl; nib = refl } }
 
 -- where the storage was full all stops
 abbrev pub stop_at : Result (Option Bool) Full → Option Reason → Option Reason
@@ -333,32 +339,32 @@ module _ {S B K : Type 0} (meaning : S → Meaning) (took : S → Command → S)
 -- A run was collected, from a stroker that is to do all actions.
 module _ {S B K : Type 0} (meaning : S → Meaning) (took : S → Command → S) (held : B → List Segment) (capacity : B → ℕ) (cleared : B → B) (pushed : B → Segment → B) (asked : K → Function → Float → K) where
   pub record Ran (functions : K → Functions) (pattern : Option Dashes) (a : Stroker S B K) (all : List Action) (c : Stroker S B K) (r : Result (Option Bool) Full) (es : List drawings.Event) : Type 0 where
-    pub whole : let left = left_over held (functions a.outliner.host.now) a.outliner.nib pattern c.storage.now r es in
+    pub whole : let left = left_over held (functions a.host.now) a.nib pattern c.storage.now r es in
         run meaning took held capacity cleared pushed asked c.steps.budget left (stage_of c (stop_at r None)) ≡ run meaning took held capacity cleared pushed asked a.steps.budget all (stage_of a None)
     pub kept : Kept a c
-    pub same : functions c.outliner.host.now ≡ functions a.outliner.host.now
-    pub fits : FitsAll c (left_over held (functions a.outliner.host.now) a.outliner.nib pattern c.storage.now r es)
+    pub same : functions c.host.now ≡ functions a.host.now
+    pub fits : FitsAll c (left_over held (functions a.host.now) a.nib pattern c.storage.now r es)
     pub few : length (held c.storage.now) < 2 ^ 63
 
 module _ {S B K : Type 0} {meaning : S → Meaning} {took : S → Command → S} {held : B → List Segment} {capacity : B → ℕ} {cleared : B → B} {pushed : B → Segment → B} {asked : K → Function → Float → K} where
   pub collects : (functions : K → Functions) → ((s : K) (f : Function) (x : Float) → functions (asked s f x) ≡ functions s)
       → ((s : B) → held (cleared s) ≡ []) → ((s : B) (x : Segment) → T (room (held s) (capacity s)) → held (pushed s x) ≡ held s ++ (x ∷ []))
       → (pattern : Option Dashes) (given left : Functions → List drawings.Event) {a b : Stroker S B K} {o : Outliner S K} {s : B} {all : List Action} {r : Result (Option Bool) Full}
-      → Leads meaning took held capacity cleared pushed asked a all b (clears ∷ run_by_run (functions a.outliner.host.now) a.outliner.nib pattern [] (given (functions a.outliner.host.now)))
-      → collected s o.host.now r (left (functions b.outliner.host.now)) ≡ gather held capacity pushed asked (cleared b.storage.now) b.outliner.host.now (given (functions b.outliner.host.now))
-      → functions o.host.now ≡ functions b.outliner.host.now → Undrawn b.outliner o
-      → Ran meaning took held capacity cleared pushed asked functions pattern a all (with_run b o s) r (left (functions a.outliner.host.now))
+      → Leads meaning took held capacity cleared pushed asked a all b (clears ∷ run_by_run (functions a.host.now) a.nib pattern [] (given (functions a.host.now)))
+      → collected s o.host.now r (left (functions b.host.now)) ≡ gather held capacity pushed asked (cleared b.storage.now) b.host.now (given (functions b.host.now))
+      → functions o.host.now ≡ functions b.host.now → Undrawn (outliner_of b) o
+      → Ran meaning took held capacity cleared pushed asked functions pattern a all (with_run b o s) r (left (functions a.host.now))
   unfolding perform
   collects functions same empties grows pattern given left {a = a} {b = b} {o = o} {s = s} {all = all} {r = r} l is alike u =
-      let F = functions a.outliner.host.now in
-      let nib = a.outliner.nib in
+      let F = functions a.host.now in
+      let nib = a.nib in
       let n = b.steps.budget in
       let es = given F in
       let by = leads_functions functions same l in
-      let is' : collected s o.host.now r (left F) ≡ gather held capacity pushed asked (cleared b.storage.now) b.outliner.host.now es =
-      (λ i. collected s o.host.now r (left (sym by i))) ∙ is ∙ (λ i. gather held capacity pushed asked (cleared b.storage.now) b.outliner.host.now (given (by i))) in
-      let there = gathered meaning took held capacity cleared pushed asked F nib pattern n grows [] es (cleared b.storage.now) b.outliner.host.now (stage_of b None) refl (empties b.storage.now) in
-      let fewer = gathered_fewer meaning took held capacity cleared pushed asked F nib pattern n grows [] es (cleared b.storage.now) b.outliner.host.now (empties b.storage.now) in
+      let is' : collected s o.host.now r (left F) ≡ gather held capacity pushed asked (cleared b.storage.now) b.host.now es =
+      (λ i. collected s o.host.now r (left (sym by i))) ∙ is ∙ (λ i. gather held capacity pushed asked (cleared b.storage.now) b.host.now (given (by i))) in
+      let there = gathered meaning took held capacity cleared pushed asked F nib pattern n grows [] es (cleared b.storage.now) b.host.now (stage_of b None) refl (empties b.storage.now) in
+      let fewer = gathered_fewer meaning took held capacity cleared pushed asked F nib pattern n grows [] es (cleared b.storage.now) b.host.now (empties b.storage.now) in
       let f = subst (Fewer meaning took held capacity cleared pushed asked F nib pattern n (length (run_by_run F nib pattern [] es)) 0) (sym is') fewer in
       record {
         whole = (λ i. run meaning took held capacity cleared pushed asked n (left_over held F nib pattern s r (left F))
@@ -373,10 +379,10 @@ module _ {S B K : Type 0} {meaning : S → Meaning} {took : S → Command → S}
   -- up to an end: it is read, the run is drawn, and the rest follows
   pub ran_to_end : (functions : K → Functions) (pattern : Option Dashes) (closed : Bool) {a c : Stroker S B K} {all : List Action} {r : Result (Option Bool) Full} {es : List drawings.Event} → Ran meaning took held capacity cleared pushed asked functions pattern a all c r es → r ≡ Ok (Some closed)
       → Leads meaning took held capacity cleared pushed asked a all c
-      ((ends ∷ run_actions (functions c.outliner.host.now) c.outliner.nib pattern closed (held c.storage.now)) ++ (clears ∷ run_by_run (functions a.outliner.host.now) a.outliner.nib pattern [] es))
+      ((ends ∷ run_actions (functions c.host.now) c.nib pattern closed (held c.storage.now)) ++ (clears ∷ run_by_run (functions a.host.now) a.nib pattern [] es))
   ran_to_end functions pattern closed {a = a} {c = c} {r = r} {es = es} ran is =
-      let these = ap (λ (r : Result (Option Bool) Full). left_over held (functions a.outliner.host.now) a.outliner.nib pattern c.storage.now r es) is
-      ∙ (λ i. (ends ∷ run_actions (sym ran.same i) (sym ran.kept.outliner.nib i) pattern closed (held c.storage.now)) ++ (clears ∷ run_by_run (functions a.outliner.host.now) a.outliner.nib pattern [] es)) in
+      let these = ap (λ (r : Result (Option Bool) Full). left_over held (functions a.host.now) a.nib pattern c.storage.now r es) is
+      ∙ (λ i. (ends ∷ run_actions (sym ran.same i) (sym ran.kept.outliner.nib i) pattern closed (held c.storage.now)) ++ (clears ∷ run_by_run (functions a.host.now) a.nib pattern [] es)) in
       record {
         whole = (λ i. run meaning took held capacity cleared pushed asked c.steps.budget (sym these i) (stage_of c (stop_at (sym is i) None))) ∙ ran.whole;
         kept = ran.kept;
@@ -384,15 +390,15 @@ module _ {S B K : Type 0} {meaning : S → Meaning} {took : S → Command → S}
       }
 
   pub end_fits : (functions : K → Functions) (pattern : Option Dashes) (closed : Bool) {a c : Stroker S B K} {all : List Action} {r : Result (Option Bool) Full} {es : List drawings.Event} → Ran meaning took held capacity cleared pushed asked functions pattern a all c r es → r ≡ Ok (Some closed)
-      → FitsAll c (ends ∷ run_actions (functions c.outliner.host.now) c.outliner.nib pattern closed (held c.storage.now))
+      → FitsAll c (ends ∷ run_actions (functions c.host.now) c.nib pattern closed (held c.storage.now))
   end_fits functions pattern closed {a = a} {c = c} {es = es} ran is =
-      next_fits (ends ∷ run_actions (functions c.outliner.host.now) c.outliner.nib pattern closed (held c.storage.now)) (clears ∷ run_by_run (functions a.outliner.host.now) a.outliner.nib pattern [] es) refl (ran_to_end functions pattern closed ran is)
+      next_fits (ends ∷ run_actions (functions c.host.now) c.nib pattern closed (held c.storage.now)) (clears ∷ run_by_run (functions a.host.now) a.nib pattern [] es) refl (ran_to_end functions pattern closed ran is)
 
   -- up to the end of the commands: the run is drawn
   pub ran_out : (functions : K → Functions) (pattern : Option Dashes) {a c : Stroker S B K} {all : List Action} {r : Result (Option Bool) Full} {es : List drawings.Event} → Ran meaning took held capacity cleared pushed asked functions pattern a all c r es → r ≡ Ok None
-      → Leads meaning took held capacity cleared pushed asked a all c (run_actions (functions c.outliner.host.now) c.outliner.nib pattern false (held c.storage.now))
+      → Leads meaning took held capacity cleared pushed asked a all c (run_actions (functions c.host.now) c.nib pattern false (held c.storage.now))
   ran_out functions pattern {a = a} {c = c} {r = r} {es = es} ran is =
-      let these = ap (λ (r : Result (Option Bool) Full). left_over held (functions a.outliner.host.now) a.outliner.nib pattern c.storage.now r es) is
+      let these = ap (λ (r : Result (Option Bool) Full). left_over held (functions a.host.now) a.nib pattern c.storage.now r es) is
       ∙ (λ i. run_actions (sym ran.same i) (sym ran.kept.outliner.nib i) pattern false (held c.storage.now)) in
       record {
         whole = (λ i. run meaning took held capacity cleared pushed asked c.steps.budget (sym these i) (stage_of c (stop_at (sym is i) None))) ∙ ran.whole;

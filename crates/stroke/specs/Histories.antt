@@ -1,5 +1,6 @@
 -- The law of strokes: what is true of all the strokes ever made on one sink, whatever the sink, the storages and the hosts.
 use Rattle.std.specs.Prelude.{◌≡◌, ℕ, ◌+◌, true, List, [], ◌∷◌, ◌++◌, map, take, drop, length, is_ok, None, Ok, Err, Result, Float}
+use Rattle.maths.specs.declared.host.Function.{Function}
 use Rattle.maths.specs.Functions.{Functions, Alike, restricted}
 use Rattle.path.specs.declared.command.Command.{Command}
 use Rattle.path.specs.declared.refusal.Refusal.{Refusal}
@@ -31,6 +32,9 @@ pub record Call : Type 0 where
   pub budget : ℕ
   pub answer : Result Tally Refusal
 
+abbrev pub call : List Command → Stroke → List Float → Functions → ℕ → ℕ → Result Tally Refusal → Call
+call commands style dashes functions capacity budget answer = record { commands = commands; style = style; dashes = dashes; functions = functions; capacity = capacity; budget = budget; answer = answer }
+
 -- a storage in values
 pub record Held : Type 0 where
   pub segments : List Segment
@@ -39,10 +43,15 @@ pub record Held : Type 0 where
 abbrev pub empty_held : ℕ → Held
 empty_held n = record { segments = []; capacity = n }
 
+-- a call with a storage in values, whatever the sink and the host
+abbrev pub stroked_held : {S K : Type 0} → (S → Meaning) → (S → Command → S) → (K → Function → Float → K) → ℕ → Functions → List Command → Stroke → List Float → S → Held → K → Outcome S Held K
+stroked_held meaning took asked budget F cs style dashes s b k =
+    stroked meaning took (λ (b : Held). b.segments) (λ (b : Held). b.capacity) (λ (b : Held). empty_held b.capacity) (λ (b : Held) x. record b { segments = b.segments ++ (x ∷ []) }) asked
+    budget F cs style dashes s b k
+
 -- The whole call on what a sink means: a meaning is a sink itself, and no host is kept.
 abbrev pub made : Call → Meaning → Outcome Meaning Held (Unit {0})
-made c before = stroked (λ m. m) joined (λ (b : Held). b.segments) (λ (b : Held). b.capacity) (λ (b : Held). empty_held b.capacity) (λ (b : Held) x. record b { segments = b.segments ++ (x ∷ []) }) (λ k f x. k)
-    c.budget c.functions c.commands c.style c.dashes before (empty_held c.capacity) tt
+made c before = stroked_held (λ m. m) joined (λ k f x. k) c.budget c.functions c.commands c.style c.dashes before (empty_held c.capacity) tt
 
 -- The call c was made on a sink that meant before, and left it meaning after.
 pub record Promised (c : Call) (before after : Meaning) : Type 0 where

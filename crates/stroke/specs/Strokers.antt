@@ -13,12 +13,16 @@ use Rattle.stroke.specs.Calls.{Action}
 use Rattle.stroke.specs.Outcomes.{Stage, perform}
 use Rattle.stroke.specs.Outliners.{Same}
 
+-- what its outlines are drawn by
+abbrev pub outliner_of : {S B K : Type 0} → Stroker S B K → Outliner S K
+outliner_of s = record { sink = s.sink; host = s.host; sent = s.sent; nib = s.nib }
+
 -- so many actions can be counted: none sends a command and reads an end
 abbrev pub FitsAll : {S B K : Type 0} → Stroker S B K → List Action → Type 0
-FitsAll s actions = s.outliner.sent + s.ended + length actions < 2 ^ 63
+FitsAll s actions = s.sent + s.ended + length actions < 2 ^ 63
 
 abbrev pub stage_of : {S B K : Type 0} → Stroker S B K → Option Reason → Stage S B K
-stage_of s stop = record { sink = s.outliner.sink.now; storage = s.storage.now; host = s.outliner.host.now; sent = s.outliner.sent; taken = s.steps.taken; ended = s.ended; stop = stop }
+stage_of s stop = record { sink = s.sink.now; storage = s.storage.now; host = s.host.now; sent = s.sent; taken = s.steps.taken; ended = s.ended; stop = stop }
 
 -- why a stroke stopped, by the answer
 abbrev pub stop_of : {X : Type 0} → Result X Reason → Option Reason
@@ -38,7 +42,7 @@ pub record Undrawn {S K : Type 0} (a b : Outliner S K) : Type 0 where
 
 -- a stroker keeps its references, its nib and its budget
 pub record Kept {S B K : Type 0} (a b : Stroker S B K) : Type 0 where
-  pub outliner : Same a.outliner b.outliner
+  pub outliner : Same (outliner_of a) (outliner_of b)
   pub storage : b.storage.ghost_name ≡ a.storage.ghost_name
   pub budget : b.steps.budget ≡ a.steps.budget
 

@@ -1,6 +1,7 @@
 //! Strokes: the outline of a run, drawn into any sink with any maths host.
 #![tactic(auto)]
 
+pub mod calls;
 mod closed;
 mod collect;
 mod dash;

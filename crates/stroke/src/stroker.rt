@@ -3,7 +3,7 @@ ghost use Rattle.cursor.specs.Cursors.{seen, rest};
 ghost use Rattle.cursor.specs.Drawings.{still, drawn_whole};
 ghost use Rattle.cursor.specs.Giving.{left};
 ghost use Rattle.dashes.specs.PatternValues.{values};
-ghost use Rattle.dashes.specs.StepCounts.{most_steps};
+ghost use Rattle.dashes.specs.StepCounts.{most_steps, none_taken};
 ghost use Rattle.dashes.specs.Walks.{Within, emits};
 ghost use Rattle.stroke.specs.Calls.{clears, ends, draws, steps as one_step, twice_place, dash_actions, run_actions, run_by_run};
 ghost use Rattle.stroke.specs.Collecting.{collected, gather};
@@ -22,15 +22,20 @@ use lent::Full;
 use maths::host::MathsHost;
 use path::command::Command;
 use path::refusal::Reason;
+use pen::nib::Nib;
 use sinks::sink::{Refused, Sink};
 use storage::storage::Storage;
 
-// What draws a path: an outliner, the storage for the run at hand, the dash steps taken, and how many
-// ends were read.
+// What draws a path: where its commands go, whom it asks, the storage for the run at hand, how many
+// commands were taken, the nib, the dash steps taken, and how many ends were read. An outliner is made for
+// each outline: in a struct within a struct a caller's references are not told apart.
 #[derive(Drop)]
 pub(crate) struct Stroker<'a, S, B, K> {
-    pub(crate) outliner: Outliner<'a, S, K>,
+    pub(crate) sink: &'a mut S,
+    pub(crate) host: &'a mut K,
     pub(crate) storage: &'a mut B,
+    pub(crate) sent: u64,
+    pub(crate) nib: Nib,
     pub(crate) steps: Steps,
     pub(crate) ended: usize,
 }
@@ -70,24 +75,28 @@ fn twice_place(len: usize, place: isize) -> usize
     }
 }
 
-impl<'a, S: Sink, K: MathsHost> Outliner<'a, S, K> {
-    // The next run into a storage; nothing is drawn.
-    fn collect_run<B: Storage>(
-        &mut self,
-        cursor: &mut Segments,
-        commands: &[Command],
-        storage: &mut B,
-    ) -> Result<Option<bool>, Full>
-        ensures whole { collected storage.new self.new.host.now result (still (K.functions self.old.host.now) (seen cursor.new) (rest cursor.new commands.now)) ≡ gather B.held B.capacity B.pushed K.asked (B.cleared storage.old) self.old.host.now (still (K.functions self.old.host.now) (seen cursor.old) (rest cursor.old commands.now)) }
-        ensures functions { K.functions self.new.host.now ≡ K.functions self.old.host.now }
-        ensures falls { (closed : Bool) → result ≡ Ok (Some closed) → left (seen cursor.new) (rest cursor.new commands.now) < left (seen cursor.old) (rest cursor.old commands.now) }
-        ensures undrawn { Undrawn self.old self.new }
-    {
-        collect(cursor, commands, storage, self.host)
-    }
-}
-
 impl<'a, S: Sink, B: Storage, K: MathsHost> Stroker<'a, S, B, K> {
+    // Before anything is done.
+    pub(crate) fn new(
+        nib: Nib,
+        budget: u32,
+        sink: &'a mut S,
+        storage: &'a mut B,
+        host: &'a mut K,
+    ) -> Stroker<'a, S, B, K>
+        ensures { result ≡ record { sink = sink.entry; host = host.entry; sent = 0; nib = nib; storage = storage.entry; steps = none_taken budget; ended = 0 } }
+    {
+        Stroker {
+            sink,
+            host,
+            storage,
+            sent: 0,
+            nib,
+            steps: Steps::new(budget),
+            ended: 0,
+        }
+    }
+
     // One dash step.
     fn spend(&mut self) -> Result<(), Reason>
         ensures performed { Performed S.meaning S.took B.held B.capacity B.cleared B.pushed K.asked self.old self.new (one_step ∷ []) (stop_of result) }
@@ -101,35 +110,46 @@ impl<'a, S: Sink, B: Storage, K: MathsHost> Stroker<'a, S, B, K> {
 
     // The outline of the run that the storage holds.
     fn draw_plain(&mut self, closed: bool) -> Result<(), Reason>
-        requires { FitsAll self.old (map draws (outline (K.functions self.old.outliner.host.now) self.old.outliner.nib closed (B.held self.old.storage.now))) }
-        ensures { Performed S.meaning S.took B.held B.capacity B.cleared B.pushed K.asked self.old self.new (map draws (outline (K.functions self.old.outliner.host.now) self.old.outliner.nib closed (B.held self.old.storage.now))) (stop_of result) }
+        requires { FitsAll self.old (map draws (outline (K.functions self.old.host.now) self.old.nib closed (B.held self.old.storage.now))) }
+        ensures { Performed S.meaning S.took B.held B.capacity B.cleared B.pushed K.asked self.old self.new (map draws (outline (K.functions self.old.host.now) self.old.nib closed (B.held self.old.storage.now))) (stop_of result) }
     {
-        refused_by_sink(
-            self.outliner.stroke_segments(
-                &Run {
-                    storage: self.storage,
-                },
-                closed,
-            ),
-        )
+        let mut outliner = Outliner {
+            sink: self.sink,
+            host: self.host,
+            sent: self.sent,
+            nib: self.nib,
+        };
+        let drawn = outliner.stroke_segments(
+            &Run {
+                storage: self.storage,
+            },
+            closed,
+        );
+        self.sent = outliner.sent;
+        refused_by_sink(drawn)
     }
 
     // A dash of the run that the storage holds.
     fn draw_dash(&mut self, range: Range) -> Result<(), Reason>
         requires within { Within (length (B.held self.old.storage.now)) range }
         requires few { length (B.held self.old.storage.now) < 2 ^ 63 }
-        requires room { FitsAll self.old (dash_actions (K.functions self.old.outliner.host.now) self.old.outliner.nib (B.held self.old.storage.now) (emits range)) }
-        ensures performed { Performed S.meaning S.took B.held B.capacity B.cleared B.pushed K.asked self.old self.new (dash_actions (K.functions self.old.outliner.host.now) self.old.outliner.nib (B.held self.old.storage.now) (emits range)) (stop_of result) }
+        requires room { FitsAll self.old (dash_actions (K.functions self.old.host.now) self.old.nib (B.held self.old.storage.now) (emits range)) }
+        ensures performed { Performed S.meaning S.took B.held B.capacity B.cleared B.pushed K.asked self.old self.new (dash_actions (K.functions self.old.host.now) self.old.nib (B.held self.old.storage.now) (emits range)) (stop_of result) }
         ensures stored { self.new.storage.now ≡ self.old.storage.now }
         ensures counted { self.new.steps ≡ self.old.steps }
     {
         let len = self.storage.len();
         let from = twice_place(len, range.start);
         let to = twice_place(len, range.end);
-        refused_by_sink(
-            self.outliner
-                .dash_segments(self.storage, from, to, range.t0, range.t1),
-        )
+        let mut outliner = Outliner {
+            sink: self.sink,
+            host: self.host,
+            sent: self.sent,
+            nib: self.nib,
+        };
+        let drawn = outliner.dash_segments(self.storage, from, to, range.t0, range.t1);
+        self.sent = outliner.sent;
+        refused_by_sink(drawn)
     }
 
     // The dashes of the run that the storage holds.
@@ -137,8 +157,8 @@ impl<'a, S: Sink, B: Storage, K: MathsHost> Stroker<'a, S, B, K> {
         requires some { 0 < length (B.held self.old.storage.now) }
         requires few { length (B.held self.old.storage.now) < 2 ^ 63 }
         requires budget { self.old.steps.budget ≤ most_steps }
-        requires room { FitsAll self.old (run_actions (K.functions self.old.outliner.host.now) self.old.outliner.nib (Some (values pattern)) closed (B.held self.old.storage.now)) }
-        ensures { Performed S.meaning S.took B.held B.capacity B.cleared B.pushed K.asked self.old self.new (run_actions (K.functions self.old.outliner.host.now) self.old.outliner.nib (Some (values pattern.entry)) closed (B.held self.old.storage.now)) (stop_of result) }
+        requires room { FitsAll self.old (run_actions (K.functions self.old.host.now) self.old.nib (Some (values pattern)) closed (B.held self.old.storage.now)) }
+        ensures { Performed S.meaning S.took B.held B.capacity B.cleared B.pushed K.asked self.old self.new (run_actions (K.functions self.old.host.now) self.old.nib (Some (values pattern.entry)) closed (B.held self.old.storage.now)) (stop_of result) }
     {
         let mut dasher = Dasher::init(closed, pattern);
         while dasher.seeks() {
@@ -160,8 +180,8 @@ impl<'a, S: Sink, B: Storage, K: MathsHost> Stroker<'a, S, B, K> {
     fn draw_run(&mut self, pattern: Option<Pattern>, closed: bool) -> Result<(), Reason>
         requires few { length (B.held self.old.storage.now) < 2 ^ 63 }
         requires budget { self.old.steps.budget ≤ most_steps }
-        requires room { FitsAll self.old (run_actions (K.functions self.old.outliner.host.now) self.old.outliner.nib (option_map values pattern) closed (B.held self.old.storage.now)) }
-        ensures { Performed S.meaning S.took B.held B.capacity B.cleared B.pushed K.asked self.old self.new (run_actions (K.functions self.old.outliner.host.now) self.old.outliner.nib (option_map values pattern.entry) closed (B.held self.old.storage.now)) (stop_of result) }
+        requires room { FitsAll self.old (run_actions (K.functions self.old.host.now) self.old.nib (option_map values pattern) closed (B.held self.old.storage.now)) }
+        ensures { Performed S.meaning S.took B.held B.capacity B.cleared B.pushed K.asked self.old self.new (run_actions (K.functions self.old.host.now) self.old.nib (option_map values pattern.entry) closed (B.held self.old.storage.now)) (stop_of result) }
     {
         if self.storage.len() == 0 {
             return Ok(());
@@ -176,8 +196,8 @@ impl<'a, S: Sink, B: Storage, K: MathsHost> Stroker<'a, S, B, K> {
     fn end_run(&mut self, pattern: Option<Pattern>, closed: bool) -> Result<(), Reason>
         requires few { length (B.held self.old.storage.now) < 2 ^ 63 }
         requires budget { self.old.steps.budget ≤ most_steps }
-        requires room { FitsAll self.old (ends ∷ run_actions (K.functions self.old.outliner.host.now) self.old.outliner.nib (option_map values pattern) closed (B.held self.old.storage.now)) }
-        ensures { Performed S.meaning S.took B.held B.capacity B.cleared B.pushed K.asked self.old self.new (ends ∷ run_actions (K.functions self.old.outliner.host.now) self.old.outliner.nib (option_map values pattern.entry) closed (B.held self.old.storage.now)) (stop_of result) }
+        requires room { FitsAll self.old (ends ∷ run_actions (K.functions self.old.host.now) self.old.nib (option_map values pattern) closed (B.held self.old.storage.now)) }
+        ensures { Performed S.meaning S.took B.held B.capacity B.cleared B.pushed K.asked self.old self.new (ends ∷ run_actions (K.functions self.old.host.now) self.old.nib (option_map values pattern.entry) closed (B.held self.old.storage.now)) (stop_of result) }
     {
         self.ended += 1;
         self.draw_run(pattern, closed)
@@ -190,14 +210,12 @@ impl<'a, S: Sink, B: Storage, K: MathsHost> Stroker<'a, S, B, K> {
         pattern: Option<Pattern>,
     ) -> Result<(), Reason>
         requires budget { self.old.steps.budget ≤ most_steps }
-        requires room { FitsAll self.old (clears ∷ run_by_run (K.functions self.old.outliner.host.now) self.old.outliner.nib (option_map values pattern) [] (drawn_whole (K.functions self.old.outliner.host.now) true commands.now)) }
-        ensures { Performed S.meaning S.took B.held B.capacity B.cleared B.pushed K.asked self.old self.new (clears ∷ run_by_run (K.functions self.old.outliner.host.now) self.old.outliner.nib (option_map values pattern.entry) [] (drawn_whole (K.functions self.old.outliner.host.now) true commands.now)) (stop_of result) }
+        requires room { FitsAll self.old (clears ∷ run_by_run (K.functions self.old.host.now) self.old.nib (option_map values pattern) [] (drawn_whole (K.functions self.old.host.now) true commands.now)) }
+        ensures { Performed S.meaning S.took B.held B.capacity B.cleared B.pushed K.asked self.old self.new (clears ∷ run_by_run (K.functions self.old.host.now) self.old.nib (option_map values pattern.entry) [] (drawn_whole (K.functions self.old.host.now) true commands.now)) (stop_of result) }
     {
         let mut cursor = Segments::new(true);
         loop {
-            let end = self
-                .outliner
-                .collect_run(&mut cursor, commands, self.storage);
+            let end = collect(&mut cursor, commands, self.storage, self.host);
             match refused_by_storage(end)? {
                 Some(closed) => self.end_run(pattern, closed)?,
                 None => return self.draw_run(pattern, false),

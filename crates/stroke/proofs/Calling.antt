@@ -1,0 +1,56 @@
+-- A stroker at its start.
+use Rattle.std.proofs.Common.{◌≡◌, ℕ, ◌≤◌, true, List, [], ◌∷◌, length, Option, Result, None, ap, ◌∙◌, arith}
+use denote.Ref.{MutBor}
+use lib.Ieee.{Float}
+use Rattle.maths.specs.Functions.{Functions}
+use Rattle.path.specs.declared.command.Command.{Command}
+use Rattle.path.specs.declared.style.Stroke.{Stroke}
+use Rattle.cursor.specs.Drawings.{drawn_whole}
+use Rattle.pen.specs.declared.nib.Nib.{Nib}
+use Rattle.pen.specs.Nibs.{nib_of}
+use Rattle.dashes.specs.Patterns.{Dashes, pattern_of}
+use Rattle.dashes.specs.StepCounts.{none_taken}
+use Rattle.stroke.specs.declared.stroker.Stroker.{Stroker}
+use Rattle.maths.specs.declared.host.Function.{Function}
+use Rattle.path.specs.declared.refusal.Reason.{Reason}
+use Rattle.path.specs.declared.refusal.Refusal.{Refusal}
+use Rattle.segments.specs.declared.segment.Segment.{Segment}
+use Rattle.sinks.specs.Meaning.{Meaning}
+use Rattle.stroke.specs.declared.tally.Tally.{Tally}
+use Rattle.stroke.specs.Outcomes.{Outcome, outcome, answer_of, perform, at_start}
+use Rattle.stroke.specs.Calls.{Action, clears, run_by_run, stroke_actions}
+use Rattle.stroke.specs.Strokers.{FitsAll, Performed, stage_of}
+use Rattle.stroke.proofs.Lengths.{actions_few}
+
+abbrev pub fresh : {S B K : Type 0} → Nib → ℕ → MutBor S → MutBor B → MutBor K → Stroker S B K
+fresh nib budget sink storage host = record { sink = sink; host = host; sent = 0; nib = nib; storage = storage; steps = none_taken budget; ended = 0 }
+
+-- what it is to do, by its own nib and pattern
+abbrev pub actions_by : {S B K : Type 0} → (K → Functions) → List Command → Option Dashes → Stroker S B K → List Action
+actions_by functions cs pattern s = clears ∷ run_by_run (functions s.host.now) s.nib pattern [] (drawn_whole (functions s.host.now) true cs)
+
+pub actions_at_start : {S B K : Type 0} (functions : K → Functions) (cs : List Command) (style : Stroke) (dashes : List Float) {nib : Nib} {budget : ℕ} {sink : MutBor S} {storage : MutBor B} {host : MutBor K} {pattern : Option Dashes} {s : Stroker S B K}
+    → s ≡ fresh nib budget sink storage host → nib ≡ nib_of style → pattern ≡ pattern_of dashes style.offset → actions_by functions cs pattern s ≡ stroke_actions (functions host.now) cs style dashes
+actions_at_start functions cs style dashes {host = host} {pattern = pattern} is nibbed patterned =
+    ap (actions_by functions cs pattern) is ∙ (λ i. clears ∷ run_by_run (functions host.now) (nibbed i) (patterned i) [] (drawn_whole (functions host.now) true cs))
+
+pub room_at_start : {S B K : Type 0} (functions : K → Functions) (cs : List Command) (style : Stroke) (dashes : List Float) {nib : Nib} {budget : ℕ} {sink : MutBor S} {storage : MutBor B} {host : MutBor K} {pattern : Option Dashes} {s : Stroker S B K}
+    → s ≡ fresh nib budget sink storage host → nib ≡ nib_of style → pattern ≡ pattern_of dashes style.offset → length cs ≤ 4096 → FitsAll s (actions_by functions cs pattern s)
+room_at_start functions cs style dashes {host = host} is nibbed patterned few =
+    let all = actions_few (functions host.now) cs style dashes few in
+    let same = actions_at_start functions cs style dashes is nibbed patterned in
+    let sent = ap (λ (t : Stroker _ _ _). t.sent) is in
+    let ended = ap (λ (t : Stroker _ _ _). t.ended) is in
+    omega (arith, all, sent, ended, ap length same)
+
+-- what a stroker did from its start is the whole outcome
+pub outcome_of : {S B K : Type 0} (meaning : S → Meaning) (took : S → Command → S) (held : B → List Segment) (capacity : B → ℕ) (cleared : B → B) (pushed : B → Segment → B) (asked : K → Function → Float → K)
+    (functions : K → Functions) (cs : List Command) (style : Stroke) (dashes : List Float) {nib : Nib} {budget : ℕ} {sink : MutBor S} {storage : MutBor B} {host : MutBor K} {pattern : Option Dashes} {s t : Stroker S B K} {stop : Option Reason}
+    {r : Result Tally Refusal} {s' : S} {b' : B} {k' : K} → s ≡ fresh nib budget sink storage host → nib ≡ nib_of style → pattern ≡ pattern_of dashes style.offset
+    → Performed meaning took held capacity cleared pushed asked s t (actions_by functions cs pattern s) stop → r ≡ answer_of t.sent t.steps.taken t.ended stop → s' ≡ t.sink.now → b' ≡ t.storage.now → k' ≡ t.host.now
+    → ◌≡◌ {A = Outcome S B K} (record { answer = r; sink = s'; storage = b'; host = k' })
+    (outcome (perform meaning took held capacity cleared pushed asked budget (stroke_actions (functions host.now) cs style dashes) (at_start meaning took held capacity cleared pushed asked budget sink.now storage.now host.now)))
+outcome_of meaning took held capacity cleared pushed asked functions cs style dashes {nib = nib} {budget = budget} {sink = sink} {storage = storage} {host = host} is nibbed patterned p answered sunk stored hosted =
+    let same = actions_at_start functions cs style dashes is nibbed patterned in
+    (λ i. record { answer = answered i; sink = sunk i; storage = stored i; host = hosted i }) ∙ ap outcome p.performed
+    ∙ (λ i. outcome (perform meaning took held capacity cleared pushed asked (is i).steps.budget (same i) (stage_of (is i) None)))

@@ -1,0 +1,16 @@
+use Rattle.stroke.proofs.Lawfully.{law_of_call}
+use Rattle.stroke.proofs.Seen.{promised_by}
+use Rattle.stroke.proofs.calls.stroke_with_storage.Goals as goal
+
+pub returns-clause-promised : goal.returns-clause-promised
+returns-clause-promised g c = let b = g.met.B.Storage in
+    promised_by g.S.Sink.meaning g.S.Sink.took g.B.Storage.held g.B.Storage.capacity g.B.Storage.cleared g.B.Storage.pushed g.K.MathsHost.asked
+    (record { empties = b.empties; same_cleared = b.same_cleared; grows = b.grows; same_pushed = b.same_pushed })
+    c.args.budget (g.K.MathsHost.functions c.args.host.now) c.args.commands.now c.args.style c.args.dashes.now c.args.sink.now c.args.storage.now c.args.host.now
+    g.met.S.Sink.grows c.admit_and_draw.ensures (g.met.K.MathsHost.narrow c.args.host.now)
+
+pub returns-clause-lawful : goal.returns-clause-lawful
+returns-clause-lawful g c = let b = g.met.B.Storage in
+    law_of_call g.S.Sink.meaning g.S.Sink.took g.B.Storage.held g.B.Storage.capacity g.B.Storage.cleared g.B.Storage.pushed g.K.MathsHost.asked
+    c.args.budget (g.K.MathsHost.functions c.args.host.now) c.args.commands.now c.args.style c.args.dashes.now c.args.sink.now c.args.storage.now c.args.host.now
+    g.met.S.Sink.kept g.met.S.Sink.grows (record { empties = b.empties; same_cleared = b.same_cleared; grows = b.grows; same_pushed = b.same_pushed }) (g.met.K.MathsHost.narrow c.args.host.now) c.admit_and_draw.ensures
