@@ -1,9 +1,8 @@
 -- What the program `outline` prints of a job.
-use Rattle.std.specs.Prelude.{ℕ, ◌-◌, List, [], length, Ok, Err, Result}
+use Rattle.std.specs.Prelude.{ℕ, List, [], Ok, Err, Result}
 use Rattle.lent.specs.Lists.{items}
 use Rattle.maths.specs.Functions.{restricted, Functions}
 use Rattle.maths.specs.Series.{series}
-use Rattle.path.specs.declared.command.Command.{Command}
 use Rattle.path.specs.declared.refusal.Refusal.{Refusal}
 use Rattle.sinks.specs.Meaning.{Meaning, joined}
 use Rattle.job.specs.declared.whole.Job.{Job}

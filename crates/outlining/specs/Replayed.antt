@@ -1,5 +1,5 @@
 -- What the program `replay` prints of a setting.
-use Rattle.std.specs.Prelude.{ℕ, ◌/◌, List, length, Ok, Err, Result}
+use Rattle.std.specs.Prelude.{◌/◌, List, length, Ok, Err, Result}
 use Rattle.maths.specs.Tables.{tabled}
 use Rattle.path.specs.declared.refusal.Refusal.{Refusal}
 use Rattle.job.specs.declared.whole.Job.{Job}

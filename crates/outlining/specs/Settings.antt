@@ -1,5 +1,5 @@
 -- What a replay is told, in bytes: four numbers, the rows of a table, and a job.
-use Rattle.std.specs.Prelude.{ℕ, ◌+◌, ◌*◌, cond, List, take, drop, length, Ok, Err, Result, nat_lt}
+use Rattle.std.specs.Prelude.{ℕ, ◌*◌, cond, List, take, drop, length, Ok, Err, Result, nat_lt}
 use Rattle.distances.specs.Rows.{word_at}
 use Rattle.outlining.specs.declared.setting.Unfit.{Unfit}
 use Rattle.outlining.specs.declared.setting.Unfit.TheVariants.{ShortHeader, TooManySegments, TooManyPlaces, TooManyRows, ShortRows, LongJob}
