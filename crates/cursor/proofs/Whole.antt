@@ -22,7 +22,8 @@ use Rattle.cursor.specs.Subpaths.{needs_line, begun}
 use Rattle.cursor.specs.Machines.{Machine, machine, Turn, mark_read, mark_given, cut_to, curved, read, read_questions}
 use Rattle.cursor.specs.Drawings.{Event, asks, gives, pieces_given, waiting, rested, drawing, drawn_whole, given_by, Run, run, begin_with, runs}
 use Rattle.cursor.specs.Cursors.{fresh}
-use Rattle.cursor.specs.Laws.{Each, Marked, NoEnd, together, LawfulDrawing}
+use Rattle.cursor.specs.Laws.{Marked, NoEnd, together, LawfulDrawing}
+use Rattle.segments.specs.Lists.{Each, each_append}
 use Rattle.cursor.proofs.Going.{coming, few}
 
 pub given_asks : (qs : List Question) (es : List Event) → given_by (map asks qs ++ es) ≡ given_by es
@@ -68,10 +69,6 @@ few_given F b i s (c ∷ cs) =
 end_marked : (closing : Bool) → Each Marked (cond closing (End true ∷ []) [])
 end_marked true = (tt, tt)
 end_marked false = tt
-
-each_append : {X : Type 0} (P : X → Type 0) (xs ys : List X) → Each P xs → Each P ys → Each P (xs ++ ys)
-each_append P [] ys h k = k
-each_append P (x ∷ xs) ys h k = (h.0, each_append P xs ys h.1 k)
 
 small_after : (i : SegmentId) → (after i).mark < 255
 small_after i = cond_both (leb 254 i.mark) (marked 0) (marked (i.mark + 1)) (λ (j : SegmentId). j.mark < 255) (λ e. omega arith) (λ e. omega (arith, leb-false 254 i.mark e))

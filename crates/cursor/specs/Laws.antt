@@ -3,6 +3,7 @@ use Rattle.std.specs.Prelude.{◌≡◌, ◌*◌, ◌<◌, ◌≤◌, Bool, true
 use Rattle.std.specs.Option.{option_to_list}
 use Rattle.maths.specs.Functions.{Functions}
 use Rattle.path.specs.declared.command.Command.{Command}
+use Rattle.segments.specs.Lists.{Each}
 use Rattle.segments.specs.declared.segment.Segment.{Segment}
 use Rattle.segments.specs.declared.segment.Segment.TheVariants.{Line, Curve, End}
 use Rattle.cursor.specs.Machines.{Machine}
@@ -17,10 +18,6 @@ pub record GivesHead (F : Functions) (m : Machine) (cs : List Command) (x : Opti
   pub last : x ≡ None → still F m' cs' ≡ []
   -- with each thing given less can come
   pub falls : is_some x ≡ true → left m' cs' < left m cs
-
-abbrev pub Each : {X : Type 0} → (X → Type 0) → List X → Type 0
-Each P [] = Unit {0}
-Each P (x ∷ xs) = P x × Each P xs
 
 -- 255 marks no segment
 abbrev pub Marked : Segment → Type 0

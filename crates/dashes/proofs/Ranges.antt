@@ -14,7 +14,8 @@ use Rattle.dashes.specs.declared.dasher.walk.Walk.{Walk}
 use Rattle.dashes.specs.Dashers.{goes_on, advanced, reach_of, taken_by, span_of, course_of, drawn, op_of, one_taken, stays, next_of, seeks, sought}
 use Rattle.dashes.specs.Patterns.{Dashes, Taken}
 use Rattle.dashes.specs.Spans.{range_of}
-use Rattle.dashes.specs.Walks.{walking, seeking, ranges, Each, Within, GivesWithin}
+use Rattle.dashes.specs.Walks.{walking, seeking, ranges, Within, GivesWithin}
+use Rattle.segments.specs.Lists.{Each}
 use Rattle.dashes.proofs.Reaching.{Spans, span_lies, reach_of_lies, advanced_stands, on_run}
 
 between : (wraps : Bool) (start end n : ℕ) → start < n → end < n → (wraps ≡ false → start ≤ end)

@@ -1,5 +1,6 @@
 -- A whole walk, step by step.
 use Rattle.std.specs.Prelude.{ℕ, zero, suc, Bool, true, false, List, [], ◌∷◌, length, pos, neg_ℤ, ◌≤ℤ◌, ◌<ℤ◌}
+use Rattle.segments.specs.Lists.{Each}
 use Rattle.segments.specs.declared.segment.Segment.{Segment}
 use Rattle.dashes.specs.declared.dasher.DashOp.{DashOp}
 use Rattle.dashes.specs.declared.dasher.DashOp.TheVariants.{Done, Continue, Emit, Stroke}
@@ -48,10 +49,6 @@ step_count [] = 0
 step_count (steps ∷ es) = suc (step_count es)
 step_count (emits r ∷ es) = step_count es
 step_count (strokes ∷ es) = step_count es
-
-abbrev pub Each : {X : Type 0} → (X → Type 0) → List X → Type 0
-Each P [] = Unit {0}
-Each P (x ∷ xs) = P x × Each P xs
 
 -- a range lies on a run of n segments: from -n on, in order, and before n
 pub record Within (n : ℕ) (r : Range) : Type 0 where

@@ -1,2 +1,3 @@
+pub mod Lists
 pub mod Marks
 pub mod Pieces

@@ -10,7 +10,8 @@ use Rattle.path.specs.Kinds.{kind}
 use Rattle.segments.specs.declared.segment.Segment.{Segment}
 use Rattle.pen.specs.declared.nib.Nib.{Nib}
 use Rattle.cursor.specs.Drawings.{Run}
-use Rattle.cursor.specs.Laws.{Each, NoEnd}
+use Rattle.cursor.specs.Laws.{NoEnd}
+use Rattle.segments.specs.Lists.{Each, each_append}
 use Rattle.stroke.specs.Events.{Event, asks}
 use Rattle.stroke.specs.Outlines.{is_lone_dot, outline}
 use Rattle.stroke.specs.Contours.{row, Contour, ContourOrNone, DotOrContour, RunDrawn, outlines, RunsDrawn, Blocks, Block, contour, dot}
@@ -23,10 +24,6 @@ unfolding row
 runs_drawn F nib [] h = refl
 runs_drawn F nib (r ∷ rs) h = (row (outline F nib r.closed r.segments), row (outlines F nib rs), row_append (outline F nib r.closed r.segments) (outlines F nib rs), outline_drawn F nib r.closed r.segments h.0, runs_drawn F nib rs h.1)
 
-each_both : {X : Type 0} (P : X → Type 0) (xs ys : List X) → Each P xs → Each P ys → Each P (xs ++ ys)
-each_both P [] ys h k = k
-each_both P (x ∷ xs) ys h k = (h.0, each_both P xs ys h.1 k)
-
 pub blocks_none : (P : List Command → Type 0) → Blocks P []
 blocks_none P = record { blocks = []; joined = refl; each = tt }
 
@@ -37,7 +34,7 @@ pub blocks_both : (P : List Command → Type 0) (cs ds : List Command) → Block
 blocks_both P cs ds h k = record {
   blocks = h.blocks ++ k.blocks;
   joined = (λ i. h.joined i ++ k.joined i) ∙ sym (flat_map-append (λ (b : List Command). b) h.blocks k.blocks);
-  each = each_both P h.blocks k.blocks h.each k.each;
+  each = each_append P h.blocks k.blocks h.each k.each;
 }
 
 kinds_kept : (image : Command → Command) → ((c : Command) → kind (image c) ≡ kind c) → (cs : List Command) → map kind (map image cs) ≡ map kind cs

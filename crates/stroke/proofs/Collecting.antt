@@ -15,7 +15,8 @@ use Rattle.lent.specs.declared.Full.{Full}
 use Rattle.storage.specs.Meaning.{room, push_answer, after}
 use Rattle.cursor.specs.Machines.{Machine, Done, done}
 use Rattle.cursor.specs.Giving.{left, next_of}
-use Rattle.cursor.specs.Laws.{GivesHead, Each, NoEnd}
+use Rattle.cursor.specs.Laws.{GivesHead, NoEnd}
+use Rattle.segments.specs.Lists.{Each}
 use Rattle.cursor.specs.Drawings.{Event, asks, gives, still, given_by, run, begin_with, runs}
 use Rattle.stroke.specs.Collecting.{end_of, Collected, collected, gather, first_run, first_end, first_questions, after_run}
 

@@ -26,7 +26,7 @@ use Rattle.arcs.specs.Centres.{half_chord}
 use Rattle.arcs.specs.Curves.{all_curves, no_chord, turned_of, centred_of, round_curves, arc_curves}
 use Rattle.joins.specs.Joins.{shaped, shaped_questions, split_corner, half_circle}
 use Rattle.joins.specs.Caps.{cap_commands, cap_questions}
-use Rattle.cursor.specs.Laws.{Each}
+use Rattle.segments.specs.Lists.{Each, each_append}
 use Rattle.stroke.specs.Events.{Event, asks, sends, asked_then_sent}
 use Rattle.stroke.specs.Outlines.{turn_between, emitted, join_events, split_events, cap_events, forward, one_forward, back_events, backward, side, sides, other_sides, last_side, end_cap_events, cross_events, start_cap_events, finish_events, open_ring, closed_ring, dash_ring, ring_of, around, across, has_cap}
 use Rattle.stroke.specs.Ranges.{stretch, pieces, dot_slice, dot_around, dash_dot, stretch_outline, is_dot, range_outline}
@@ -70,12 +70,8 @@ SidesSent es = Sides (row es)
 abbrev pub Closes : List Event → Type 0
 Closes es = Closing (map kind (row es))
 
-each_both : {X : Type 0} (P : X → Type 0) (xs ys : List X) → Each P xs → Each P ys → Each P (xs ++ ys)
-each_both P [] ys h k = k
-each_both P (x ∷ xs) ys h k = (h.0, each_both P xs ys h.1 k)
-
 pub sides_both : (es fs : List Event) → SidesSent es → SidesSent fs → SidesSent (es ++ fs)
-sides_both es fs h k = subst Sides (sym (row_append es fs)) (each_both IsSide (row es) (row fs) h k)
+sides_both es fs h k = subst Sides (sym (row_append es fs)) (each_append IsSide (row es) (row fs) h k)
 
 pub sides_sent : (qs : List Question) (cs : List Command) → Sides cs → SidesSent (asked_then_sent qs cs)
 sides_sent qs cs h = subst Sides (sym (row_both qs cs)) h

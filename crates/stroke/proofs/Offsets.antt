@@ -10,7 +10,8 @@ use Rattle.segments.specs.declared.segment.Segment.{Segment}
 use Rattle.segments.specs.declared.segment.Segment.TheVariants.{Line, Curve, End}
 use Rattle.pen.specs.declared.nib.Nib.{Nib}
 use Rattle.pen.specs.declared.offset.OffsetSegment.{OffsetSegment}
-use Rattle.cursor.specs.Laws.{Each, NoEnd}
+use Rattle.cursor.specs.Laws.{NoEnd}
+use Rattle.segments.specs.Lists.{Each}
 use Rattle.stroke.specs.Events.{Event, sends}
 use Rattle.stroke.specs.Outlines.{turn_between, emitted, join_events, forward, one_forward, back_events, backward, side, other_side, sides, other_sides, last_side, end_cap_events, cross_events, finish_events, open_ring, closed_ring, ring_of, around, is_lone_dot, lone_dot, outline}
 use Rattle.stroke.specs.Contours.{row, Contour, Rising, command_of, offset_command, OffsetsStand, RunContour, DotOrContour, RunDrawn}

@@ -10,7 +10,8 @@ use Rattle.segments.specs.declared.segment.Segment.{Segment}
 use Rattle.segments.specs.declared.segment.Segment.TheVariants.{Line, Curve, End}
 use Rattle.cursor.specs.Drawings.{asks as asks_for, gives, drawn_whole, given_by, Run, run, begin_with, runs}
 use Rattle.cursor.specs.Drawings as drawings
-use Rattle.cursor.specs.Laws.{Each, NoEnd}
+use Rattle.cursor.specs.Laws.{NoEnd}
+use Rattle.segments.specs.Lists.{Each}
 use Rattle.pen.specs.declared.nib.Nib.{Nib}
 use Rattle.pen.specs.Nibs.{nib_of}
 use Rattle.dashes.specs.Patterns.{Dashes, pattern_of}

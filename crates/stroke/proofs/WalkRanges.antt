@@ -7,7 +7,7 @@ use Rattle.segments.specs.declared.segment.Segment.{Segment}
 use Rattle.segments.specs.declared.segment.Segment.TheVariants.{Line, Curve, End}
 use Rattle.cursor.specs.Drawings.{asks as asks_for, gives, drawn_whole}
 use Rattle.cursor.specs.Drawings as drawings
-use Rattle.cursor.specs.Laws.{Each}
+use Rattle.segments.specs.Lists.{Each, each_append}
 use Rattle.pen.specs.declared.nib.Nib.{Nib}
 use Rattle.pen.specs.Nibs.{nib_of}
 use Rattle.dashes.specs.declared.dasher.Range.{Range}
@@ -27,17 +27,13 @@ use Rattle.stroke.proofs.Rows.{ranges_in_append, ranges_in_draws}
 abbrev AllWithin : List Action → Type 0
 AllWithin xs = Each (λ (x : ℕ × Range). Within x.0 x.1) (ranges_in xs)
 
-each_both : {X : Type 0} (P : X → Type 0) (xs ys : List X) → Each P xs → Each P ys → Each P (xs ++ ys)
-each_both P [] ys h k = k
-each_both P (x ∷ xs) ys h k = (h.0, each_both P xs ys h.1 k)
-
 both_within : (xs ys : List Action) → AllWithin xs → AllWithin ys → AllWithin (xs ++ ys)
-both_within xs ys h k = subst (Each (λ (x : ℕ × Range). Within x.0 x.1)) (sym (ranges_in_append xs ys)) (each_both _ (ranges_in xs) (ranges_in ys) h k)
+both_within xs ys h k = subst (Each (λ (x : ℕ × Range). Within x.0 x.1)) (sym (ranges_in_append xs ys)) (each_append _ (ranges_in xs) (ranges_in ys) h k)
 
 drawn_within : (es : List Event) → AllWithin (map draws es)
 drawn_within es = subst (Each (λ (x : ℕ × Range). Within x.0 x.1)) (sym (ranges_in_draws es)) tt
 
-walk_within : (F : Functions) (nib : Nib) (xs : List Segment) (es : List DashEvent) → walks.Each (Within (length xs)) (ranges es) → AllWithin (flat_map (dash_actions F nib xs) es)
+walk_within : (F : Functions) (nib : Nib) (xs : List Segment) (es : List DashEvent) → Each (Within (length xs)) (ranges es) → AllWithin (flat_map (dash_actions F nib xs) es)
 unfolding ranges_in
 walk_within F nib xs [] h = tt
 walk_within F nib xs (walks.steps ∷ es) h = walk_within F nib xs es h

@@ -10,7 +10,7 @@ use Rattle.segments.specs.declared.segment.Segment.TheVariants.{Line, Curve, End
 use Rattle.pen.specs.declared.nib.Nib.{Nib}
 use Rattle.pen.specs.declared.offset.OffsetSegment.{OffsetSegment}
 use Rattle.cursor.specs.Drawings.{Run}
-use Rattle.cursor.specs.Laws.{Each}
+use Rattle.segments.specs.Lists.{Each}
 use Rattle.stroke.specs.Events.{Event, asks, sends}
 use Rattle.stroke.specs.Outlines.{sides, other_sides, is_lone_dot, lone_dot, outline}
 

@@ -8,7 +8,7 @@ use Rattle.path.specs.declared.style.Stroke.{Stroke}
 use Rattle.segments.specs.declared.segment.Segment.{Segment}
 use Rattle.sinks.specs.Meaning.{Meaning, joined}
 use Rattle.cursor.specs.Drawings.{Run, runs, given_by, drawn_whole}
-use Rattle.cursor.specs.Laws.{Each}
+use Rattle.segments.specs.Lists.{Each}
 use Rattle.pen.specs.declared.nib.Nib.{Nib}
 use Rattle.pen.specs.Nibs.{nib_of}
 use Rattle.dashes.specs.declared.dasher.Range.{Range}
