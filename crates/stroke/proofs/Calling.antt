@@ -1,5 +1,5 @@
 -- A stroker at its start.
-use Rattle.std.proofs.Common.{◌≡◌, ℕ, ◌≤◌, true, List, [], ◌∷◌, length, Option, Result, None, ap, ◌∙◌, arith}
+use Rattle.std.proofs.Common.{◌≡◌, ℕ, ◌≤◌, true, List, [], ◌∷◌, length, Option, Result, Ok, Err, None, refl, ap, ◌∙◌, arith}
 use denote.Ref.{MutBor}
 use lib.Ieee.{Float}
 use Rattle.maths.specs.Functions.{Functions}
@@ -17,10 +17,12 @@ use Rattle.path.specs.declared.refusal.Refusal.{Refusal}
 use Rattle.segments.specs.declared.segment.Segment.{Segment}
 use Rattle.sinks.specs.Meaning.{Meaning}
 use Rattle.stroke.specs.declared.tally.Tally.{Tally}
-use Rattle.stroke.specs.Outcomes.{Outcome, outcome, answer_of, perform, at_start}
+use Rattle.stroke.specs.Outcomes.{Stage, Outcome, outcome, answer_of, or_unaltered, perform, at_start, stroked}
 use Rattle.stroke.specs.Calls.{Action, clears, run_by_run, stroke_actions}
 use Rattle.stroke.specs.Strokers.{FitsAll, Performed, stage_of}
+use Rattle.limits.specs.Limits.{admitted}
 use Rattle.stroke.proofs.Lengths.{actions_few}
+use Rattle.stroke.proofs.Performing.{run_same}
 
 abbrev pub fresh : {S B K : Type 0} → Nib → ℕ → MutBor S → MutBor B → MutBor K → Stroker S B K
 fresh nib budget sink storage host = record { sink = sink; host = host; sent = 0; nib = nib; storage = storage; steps = none_taken budget; ended = 0 }
@@ -54,3 +56,16 @@ outcome_of meaning took held capacity cleared pushed asked functions cs style da
     let same = actions_at_start functions cs style dashes is nibbed patterned in
     (λ i. record { answer = answered i; sink = sunk i; storage = stored i; host = hosted i }) ∙ ap outcome p.performed
     ∙ (λ i. outcome (perform meaning took held capacity cleared pushed asked (is i).steps.budget (same i) (stage_of (is i) None)))
+
+host_by : {S B K : Type 0} (functions : K → Functions) (r : Result (Unit {0}) Refusal) (s : S) (b : B) (k : K) (d : Stage S B K) → functions d.host ≡ functions k → functions (or_unaltered r s b k d).host ≡ functions k
+host_by functions (Ok x) s b k d h = h
+host_by functions (Err e) s b k d h = refl
+
+-- no call alters the functions of its host
+pub functions_kept : {S B K : Type 0} (meaning : S → Meaning) (took : S → Command → S) (held : B → List Segment) (capacity : B → ℕ) (cleared : B → B) (pushed : B → Segment → B) (asked : K → Function → Float → K)
+    (functions : K → Functions) → ((k : K) (f : Function) (x : Float) → functions (asked k f x) ≡ functions k) → (budget : ℕ) (F : Functions) (cs : List Command) (style : Stroke) (dashes : List Float) (s : S) (b : B) (k : K) {o : Outcome S B K}
+    → o ≡ stroked meaning took held capacity cleared pushed asked budget F cs style dashes s b k → functions o.host ≡ functions k
+unfolding stroked
+functions_kept meaning took held capacity cleared pushed asked functions same budget F cs style dashes s b k is =
+    let d = at_start meaning took held capacity cleared pushed asked budget s b k in
+    ap (λ (o : Outcome _ _ _). functions o.host) is ∙ host_by functions (admitted cs style dashes budget) s b k _ (run_same meaning took held capacity cleared pushed asked functions same budget (stroke_actions F cs style dashes) d)

@@ -139,7 +139,7 @@ module _ {S B K : Type 0} (meaning : S → Meaning) (took : S → Command → S)
   step_same functions same n None a d = act_same functions same n a d
   step_same functions same n (Some why) a d = refl
 
-  run_same : (functions : K → Functions) → ((s : K) (f : Function) (x : Float) → functions (asked s f x) ≡ functions s) → (n : ℕ) (acts : List Action) (d : Stage S B K) → functions (run n acts d).host ≡ functions d.host
+  pub run_same : (functions : K → Functions) → ((s : K) (f : Function) (x : Float) → functions (asked s f x) ≡ functions s) → (n : ℕ) (acts : List Action) (d : Stage S B K) → functions (run n acts d).host ≡ functions d.host
   unfolding perform
   run_same functions same n [] d = refl
   run_same functions same n (a ∷ acts) d = run_same functions same n acts (step n d.stop a d) ∙ step_same functions same n d.stop a d

@@ -37,6 +37,7 @@ pub fn stroke_with_storage<S: Sink, B: Storage, K: MathsHost>(
     host: &mut K,
 ) -> Result<Tally, Refusal>
     ensures whole { record { answer = result; sink = sink.new; storage = storage.new; host = host.new } ≡ stroked S.meaning S.took B.held B.capacity B.cleared B.pushed K.asked budget (K.functions host.old) commands.now style dashes.now sink.old storage.old host.old }
+    ensures functions { K.functions host.new ≡ K.functions host.old }
     ensures promised { Promised (call commands.now style dashes.now (K.functions host.old) (B.capacity storage.old) budget result) (S.meaning sink.old) (S.meaning sink.new) }
     ensures lawful { (earlier : List Call) → History earlier (S.meaning sink.old) → Lawful (call commands.now style dashes.now (K.functions host.old) (B.capacity storage.old) budget result ∷ earlier) (S.meaning sink.new) }
 {
@@ -53,6 +54,7 @@ pub fn stroke_into<S: Sink, K: MathsHost>(
     host: &mut K,
 ) -> Result<Tally, Refusal>
     ensures whole { let o = stroked_held S.meaning S.took K.asked budget (K.functions host.old) commands.now style dashes.now sink.old (empty_held 128) host.old in (result ≡ o.answer) × (sink.new ≡ o.sink) × (host.new ≡ o.host) }
+    ensures functions { K.functions host.new ≡ K.functions host.old }
     ensures promised { Promised (call commands.now style dashes.now (K.functions host.old) 128 budget result) (S.meaning sink.old) (S.meaning sink.new) }
     ensures lawful { (earlier : List Call) → History earlier (S.meaning sink.old) → Lawful (call commands.now style dashes.now (K.functions host.old) 128 budget result ∷ earlier) (S.meaning sink.new) }
 {

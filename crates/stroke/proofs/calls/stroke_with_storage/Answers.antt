@@ -1,6 +1,12 @@
+use Rattle.stroke.proofs.Calling.{functions_kept}
 use Rattle.stroke.proofs.Lawfully.{law_of_call}
 use Rattle.stroke.proofs.Seen.{promised_by}
 use Rattle.stroke.proofs.calls.stroke_with_storage.Goals as goal
+
+pub returns-clause-functions : goal.returns-clause-functions
+returns-clause-functions g c =
+    functions_kept g.S.Sink.meaning g.S.Sink.took g.B.Storage.held g.B.Storage.capacity g.B.Storage.cleared g.B.Storage.pushed g.K.MathsHost.asked g.K.MathsHost.functions g.met.K.MathsHost.same
+    c.args.budget (g.K.MathsHost.functions c.args.host.now) c.args.commands.now c.args.style c.args.dashes.now c.args.sink.now c.args.storage.now c.args.host.now c.admit_and_draw.ensures
 
 pub returns-clause-promised : goal.returns-clause-promised
 returns-clause-promised g c = let b = g.met.B.Storage in

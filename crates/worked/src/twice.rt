@@ -1,0 +1,28 @@
+ghost use Rattle.std.specs.Prelude.{◌≡◌, [], true, is_ok};
+ghost use Rattle.stroke.specs.Histories.{empty_held, stroked_held};
+
+use maths::host::MathsHost;
+use path::command::Command;
+use path::refusal::Refusal;
+use path::style::Stroke;
+use sinks::sink::Sink;
+use stroke::calls::stroke_into;
+use stroke::tally::Tally;
+
+/// Two strokes of one path onto a sink. What a caller has of the law of strokes: on a sink that was
+/// empty both are answered alike, where both are accepted.
+pub fn twice<S: Sink, K: MathsHost>(
+    commands: &[Command],
+    style: Stroke,
+    dashes: &[f32],
+    budget: u32,
+    sink: &mut S,
+    host: &mut K,
+) -> (Result<Tally, Refusal>, Result<Tally, Refusal>)
+    ensures whole { let a = stroked_held S.meaning S.took K.asked budget (K.functions host.old) commands.now style dashes.now sink.old (empty_held 128) host.old in let b = stroked_held S.meaning S.took K.asked budget (K.functions a.host) commands.now style dashes.now a.sink (empty_held 128) a.host in (result.0 ≡ a.answer) × (result.1 ≡ b.answer) × (sink.new ≡ b.sink) × (host.new ≡ b.host) }
+    ensures alike { (S.meaning sink.old).list ≡ [] → is_ok result.0 ≡ true → is_ok result.1 ≡ true → result.0 ≡ result.1 }
+{
+    let first = stroke_into(commands, style, dashes, budget, sink, host);
+    let second = stroke_into(commands, style, dashes, budget, sink, host);
+    (first, second)
+}
