@@ -15,7 +15,7 @@ use Rattle.limits.specs.Limits.{admitted}
 use Rattle.stroke.specs.Events.{Event, asks, sends, Drawing, drawing, one}
 use Rattle.stroke.specs.Calls.{Action, clears, stores, ends, steps, works_out, draws, stroke_actions}
 use Rattle.stroke.specs.Outcomes.{Stage, Outcome, or_unaltered, why_not, act, act_on, perform, at_start, stroked}
-use Rattle.stroke.specs.Histories.{Call, Held, empty_held, made, Promised}
+use Rattle.stroke.specs.Histories.{Call, Held, empty_held, held_by, made, Promised}
 use Rattle.stroke.specs.declared.tally.Tally.{Tally}
 
 -- what is seen of either of two things
@@ -93,10 +93,6 @@ module _ {S B K S' B' K' : Type 0} (meaning : S → Meaning) (took : S → Comma
         seen_or_unaltered f g h (admitted cs style dashes budget) s b k (perform meaning took held capacity cleared pushed asked budget todo start)
         ∙ ap (or_unaltered (admitted cs style dashes budget) (f s) (g b) (h k)) (seen_perform todo start)
 
--- a storage seen as what it holds and how much it can hold
-abbrev pub held_by : {B : Type 0} → (B → List Segment) → (B → ℕ) → B → Held
-held_by held capacity b = record { segments = held b; capacity = capacity b }
-
 abbrev pub nothing : {K : Type 0} → K → Unit {0}
 nothing k = tt
 
@@ -141,13 +137,11 @@ module _ {S B K : Type 0} (meaning : S → Meaning) (took : S → Command → S)
       budget F cs style dashes s b k
 
   -- with the answer and what it was lent
-  pub whole_held : {r : Result Tally Refusal} {s' : S} {b' : B} {k' : K} {h : Held} → held_by held capacity b ≡ h
+  pub whole_held : {r : Result Tally Refusal} {s' : S} {b' : B} {k' : K}
       → record { answer = r; sink = s'; storage = b'; host = k' } ≡ stroked meaning took held capacity cleared pushed asked budget F cs style dashes s b k
       → record { answer = r; sink = s'; storage = held_by held capacity b'; host = k' }
-      ≡ stroked meaning took (λ (b : Held). b.segments) (λ (b : Held). b.capacity) emptied stored asked budget F cs style dashes s h k
-  whole_held first whole =
-      ap (outcome_seen (λ s. s) (held_by held capacity) (λ k. k)) whole ∙ stroked_held
-      ∙ ap (λ h. stroked meaning took (λ (b : Held). b.segments) (λ (b : Held). b.capacity) emptied stored asked budget F cs style dashes s h k) first
+      ≡ stroked meaning took (λ (b : Held). b.segments) (λ (b : Held). b.capacity) emptied stored asked budget F cs style dashes s (held_by held capacity b) k
+  whole_held whole = ap (outcome_seen (λ s. s) (held_by held capacity) (λ k. k)) whole ∙ stroked_held
 
   -- a call on a sink is that call on what the sink means
   stroked_meant : Grows meaning took → outcome_seen meaning (held_by held capacity) nothing (stroked meaning took held capacity cleared pushed asked budget F cs style dashes s b k)

@@ -43,6 +43,10 @@ pub record Held : Type 0 where
 abbrev pub empty_held : ℕ → Held
 empty_held n = record { segments = []; capacity = n }
 
+-- a storage seen as what it holds and how much it can hold
+abbrev pub held_by : {B : Type 0} → (B → List Segment) → (B → ℕ) → B → Held
+held_by held capacity b = record { segments = held b; capacity = capacity b }
+
 -- a call with a storage in values, whatever the sink and the host
 abbrev pub stroked_held : {S K : Type 0} → (S → Meaning) → (S → Command → S) → (K → Function → Float → K) → ℕ → Functions → List Command → Stroke → List Float → S → Held → K → Outcome S Held K
 stroked_held meaning took asked budget F cs style dashes s b k =

@@ -1,7 +1,7 @@
 ghost use Rattle.std.specs.Prelude.{◌≡◌, ◌≤◌, ◌∷◌, List, length};
 ghost use Rattle.dashes.specs.StepCounts.{most_steps};
 ghost use Rattle.stroke.specs.Calls.{stroke_actions};
-ghost use Rattle.stroke.specs.Histories.{Call, call, History, Lawful, Promised, empty_held, stroked_held};
+ghost use Rattle.stroke.specs.Histories.{Call, call, History, Lawful, Promised, empty_held, stroked_held, held_by};
 ghost use Rattle.stroke.specs.Outcomes.{stroked, outcome, perform, at_start, answer_of};
 ghost use Rattle.stroke.specs.Strokers.{stop_of};
 
@@ -41,7 +41,7 @@ pub fn stroke_with_storage<S: Sink, B: Storage, K: MathsHost>(
     ensures promised { Promised (call commands.now style dashes.now (K.functions host.old) (B.capacity storage.old) budget result) (S.meaning sink.old) (S.meaning sink.new) }
     ensures lawful { (earlier : List Call) → History earlier (S.meaning sink.old) → Lawful (call commands.now style dashes.now (K.functions host.old) (B.capacity storage.old) budget result ∷ earlier) (S.meaning sink.new) }
 {
-    admit_and_draw(commands, style, dashes, budget, sink, storage, host)
+    stroke_lawfully(commands, style, dashes, budget, sink, storage, host)
 }
 
 /// Strokes a path likewise, with a storage of 128 segments of its own.
@@ -59,7 +59,26 @@ pub fn stroke_into<S: Sink, K: MathsHost>(
     ensures lawful { (earlier : List Call) → History earlier (S.meaning sink.old) → Lawful (call commands.now style dashes.now (K.functions host.old) 128 budget result ∷ earlier) (S.meaning sink.new) }
 {
     let mut storage = Storage128::new();
-    stroke_with_storage(commands, style, dashes, budget, sink, &mut storage, host)
+    stroke_lawfully(commands, style, dashes, budget, sink, &mut storage, host)
+}
+
+// The call as it is seen from outside: what the storage holds and can hold is all that counts of it, and
+// the law of all strokes on one sink goes on.
+fn stroke_lawfully<S: Sink, B: Storage, K: MathsHost>(
+    commands: &[Command],
+    style: Stroke,
+    dashes: &[f32],
+    budget: u32,
+    sink: &mut S,
+    storage: &mut B,
+    host: &mut K,
+) -> Result<Tally, Refusal>
+    ensures whole { record { answer = result; sink = sink.new; storage = storage.new; host = host.new } ≡ stroked S.meaning S.took B.held B.capacity B.cleared B.pushed K.asked budget (K.functions host.old) commands.now style dashes.now sink.old storage.old host.old }
+    ensures seen { let o = stroked_held S.meaning S.took K.asked budget (K.functions host.old) commands.now style dashes.now sink.old (held_by B.held B.capacity storage.old) host.old in (result ≡ o.answer) × (sink.new ≡ o.sink) × (host.new ≡ o.host) }
+    ensures promised { Promised (call commands.now style dashes.now (K.functions host.old) (B.capacity storage.old) budget result) (S.meaning sink.old) (S.meaning sink.new) }
+    ensures lawful { (earlier : List Call) → History earlier (S.meaning sink.old) → Lawful (call commands.now style dashes.now (K.functions host.old) (B.capacity storage.old) budget result ∷ earlier) (S.meaning sink.new) }
+{
+    admit_and_draw(commands, style, dashes, budget, sink, storage, host)
 }
 
 // The questions first, and then the drawing.

@@ -1,7 +1,15 @@
 use Rattle.stroke.proofs.Calling.{functions_kept}
 use Rattle.stroke.proofs.Lawfully.{law_of_call}
-use Rattle.stroke.proofs.Seen.{promised_by}
-use Rattle.stroke.proofs.calls.stroke_with_storage.Goals as goal
+use Rattle.stroke.proofs.Seen.{whole_held, promised_by}
+use Rattle.stroke.proofs.calls.stroke_lawfully.Goals as goal
+
+pub returns-clause-seen : goal.returns-clause-seen
+returns-clause-seen g c = let b = g.met.B.Storage in
+    let e = whole_held g.S.Sink.meaning g.S.Sink.took g.B.Storage.held g.B.Storage.capacity g.B.Storage.cleared g.B.Storage.pushed g.K.MathsHost.asked
+    (record { empties = b.empties; same_cleared = b.same_cleared; grows = b.grows; same_pushed = b.same_pushed })
+    c.args.budget (g.K.MathsHost.functions c.args.host.now) c.args.commands.now c.args.style c.args.dashes.now c.args.sink.now c.args.storage.now c.args.host.now
+    c.admit_and_draw.ensures in
+    ((λ i. (e i).answer), (λ i. (e i).sink), (λ i. (e i).host))
 
 pub returns-clause-functions : goal.returns-clause-functions
 returns-clause-functions g c =
