@@ -5,7 +5,7 @@ ghost use Rattle.std.specs.Prelude.{◌≡◌};
 ghost use Rattle.worked.specs.Inputs.{commands_of, style_of, cap_of, offset_of, dashes_of, all};
 ghost use Rattle.worked.specs.Table.{Table};
 
-pub mod twice;
+mod twice;
 
 use path::command::Command;
 use path::geometry::Point;

@@ -9,9 +9,9 @@ use sinks::sink::Sink;
 use stroke::calls::stroke_into;
 use stroke::tally::Tally;
 
-/// Two strokes of one path onto a sink. What a caller has of the law of strokes: on a sink that was
-/// empty both are answered alike, where both are accepted.
-pub fn twice<S: Sink, K: MathsHost>(
+// Two strokes of one path onto a sink. What a caller has of the law of strokes: on a sink that was
+// empty both are answered alike, where both are accepted.
+fn twice<S: Sink, K: MathsHost>(
     commands: &[Command],
     style: Stroke,
     dashes: &[f32],
