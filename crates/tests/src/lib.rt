@@ -22,4 +22,6 @@ mod roots;
 #[cfg(test)]
 mod storages;
 #[cfg(test)]
+mod strokes;
+#[cfg(test)]
 mod vectors;
