@@ -1,2 +1,3 @@
 pub mod Firsts
+pub mod Overwrites
 pub mod Round

@@ -4,3 +4,4 @@
 pub mod float;
 pub mod item;
 pub mod letter;
+pub mod writer;
