@@ -1,5 +1,8 @@
-ghost use Rattle.std.specs.Prelude.{◌≡◌, ◌+◌, ◌≤◌, [], ◌∷◌, length};
-ghost use Rattle.codec.specs.Spelling.{float, floats};
+ghost use Rattle.std.specs.Prelude.{◌≡◌, ◌+◌, ◌≤◌, T, [], ◌∷◌, length, IfSome};
+ghost use Rattle.std.specs.Float.{binary32};
+ghost use Rattle.std.specs.Float.Ieee.{fits};
+ghost use Rattle.codec.specs.declared.item.Item.TheVariants.{Path};
+ghost use Rattle.codec.specs.Spelling.{float, floats, AllFit, Fitting};
 ghost use Rattle.codec.specs.Writing.{written, record_of, size_written, with_record};
 
 use crate::float::bits_of;
@@ -12,6 +15,7 @@ use path::geometry::Point;
 pub fn write_command(bytes: &mut [u8], place: usize, command: Command) -> Option<usize>
     ensures answer { result ≡ size_written bytes.old place command }
     ensures after { bytes.new ≡ with_record bytes.old place command }
+    ensures fitting { IfSome result (λ _. Fitting (Path command)) }
 {
     let size = record_size(command);
     if bytes.len().saturating_sub(place) < size {
@@ -34,7 +38,8 @@ fn record_size(command: Command) -> usize
 
 fn put_record(bytes: &mut [u8], place: usize, command: Command)
     requires { place + length (record_of command) ≤ length bytes.old }
-    ensures { bytes.new ≡ written bytes.old place (record_of command) }
+    ensures bytes { bytes.new ≡ written bytes.old place (record_of command) }
+    ensures fitting { Fitting (Path command) }
 {
     put(bytes, place, &[command_letter(command) as u8]);
     match command {
@@ -54,7 +59,8 @@ fn put_record(bytes: &mut [u8], place: usize, command: Command)
 
 fn put_point(bytes: &mut [u8], place: usize, p: Point)
     requires { place + 8 ≤ length bytes.old }
-    ensures { bytes.new ≡ written bytes.old place (floats (p.x ∷ p.y ∷ [])) }
+    ensures bytes { bytes.new ≡ written bytes.old place (floats (p.x ∷ p.y ∷ [])) }
+    ensures fitting { AllFit (p.x ∷ p.y ∷ []) }
 {
     put_number(bytes, place, p.x);
     put_number(bytes, place + 4, p.y);
@@ -63,7 +69,8 @@ fn put_point(bytes: &mut [u8], place: usize, p: Point)
 // A number has its high byte first.
 fn put_number(bytes: &mut [u8], place: usize, x: f32)
     requires { place + 4 ≤ length bytes.old }
-    ensures { bytes.new ≡ written bytes.old place (float x) }
+    ensures bytes { bytes.new ≡ written bytes.old place (float x) }
+    ensures fitting { T (fits binary32 x) }
 {
     put(bytes, place, &bits_of(x).to_be_bytes());
 }

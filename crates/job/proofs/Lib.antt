@@ -1,4 +1,4 @@
 mod Pushes
 mod Spelled
-mod Stores
+pub mod Stores
 mod Turns

@@ -1,0 +1,3 @@
+mod Backs
+mod Decodings
+mod Taking

@@ -1,0 +1,11 @@
+use Rattle.std.proofs.Common.{◌∙◌, ap, subst}
+use Rattle.tape.specs.Tapes.{Written}
+use Rattle.tape.specs.ReadBack.{ReadsBack}
+use Rattle.tape.specs.Decoding.{commands_in}
+use Rattle.tape.proofs.Backs.{reads_back}
+use Rattle.tape.proofs.tape.Tape.finish.Goals as goal
+
+pub returns-clause-job : goal.returns-clause-job
+returns-clause-job c =
+    subst (λ (w : Written). ReadsBack w.commands c.front.result) c.self.view_is
+    (reads_back c.front.result _ c.self.invariant.1.fitting (c.front.ensures ∙ c.self.invariant.1.whole))

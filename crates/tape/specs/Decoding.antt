@@ -1,0 +1,43 @@
+-- The commands that a row of bytes spells.
+use Rattle.std.specs.Prelude.{◌≡◌, ℕ, zero, suc, List, [], ◌∷◌, map, length, drop, Some, None, Ok, Err, Option, Result}
+use Rattle.std.specs.List.{flat_map}
+use Rattle.path.specs.declared.command.Command.{Command}
+use Rattle.path.specs.declared.refusal.Reason.{Reason}
+use Rattle.codec.specs.declared.item.Item.{Item}
+use Rattle.codec.specs.declared.item.Item.TheVariants.{Width, Join, MiterLimit, StartCap, EndCap, Offset, Dash, Path}
+use Rattle.codec.specs.Spelling.{spelled}
+use Rattle.codec.specs.Reading.{first}
+use Rattle.job.specs.Laws.{AllFitting}
+
+-- the commands' records, one after another
+abbrev pub records : List Command → List ℕ
+records cs = flat_map spelled (map Path cs)
+
+-- a command of a number of bytes, and what is spelled after it; at what is no command the list ends
+abbrev pub command_then : Item → List Command → List Command
+command_then (Width x) rest = []
+command_then (Join j) rest = []
+command_then (MiterLimit x) rest = []
+command_then (StartCap k) rest = []
+command_then (EndCap k) rest = []
+command_then (Offset x) rest = []
+command_then (Dash x) rest = []
+command_then (Path c) rest = c ∷ rest
+
+abbrev pub found_then : Result (Option (Item × ℕ)) Reason → (ℕ → List Command) → List Command
+found_then (Ok None) rest = []
+found_then (Ok (Some x)) rest = command_then x.0 (rest x.1)
+found_then (Err e) rest = []
+
+-- n commands at most
+unfoldable pub decoded : ℕ → List ℕ → List Command
+decoded zero bytes = []
+decoded (suc n) bytes = found_then (first bytes) (λ size. decoded n (drop size bytes))
+
+abbrev pub commands_in : List ℕ → List Command
+commands_in bytes = decoded (length bytes) bytes
+
+-- the bytes are records and nothing else, of numbers of f32
+pub record Spells (bytes : List ℕ) : Type 0 where
+  pub whole : bytes ≡ records (commands_in bytes)
+  pub fitting : AllFitting (map Path (commands_in bytes))

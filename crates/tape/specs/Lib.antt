@@ -1,0 +1,4 @@
+pub mod Decoding
+pub mod ReadBack
+pub mod TapeLaws
+pub mod Tapes

@@ -1,0 +1,4 @@
+//! A sink that writes commands as the bytes of a job.
+#![tactic(auto)]
+
+pub mod tape;
