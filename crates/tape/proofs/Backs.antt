@@ -1,8 +1,7 @@
 -- A tape's bytes are a job of its commands.
-use Rattle.std.proofs.Common.{◌≡◌, ℕ, ◌≤◌, min, List, [], ◌∷◌, map, length, sym, refl, ap, ◌∙◌, fold, Float, arith}
+use Rattle.std.proofs.Common.{◌≡◌, ℕ, List, [], ◌∷◌, map, length, refl, ap, ◌∙◌, fold, arith}
 use Rattle.std.specs.List.{flat_map}
 use Rattle.std.specs.Borrow.{Bor}
-use denote.Ref.{MutBor}
 use Rattle.path.specs.declared.command.Command.{Command}
 use Rattle.path.specs.declared.style.Stroke.{Stroke}
 use Rattle.codec.specs.declared.item.Item.TheVariants.{Path}
@@ -12,7 +11,7 @@ use Rattle.job.specs.Laws.{AllFitting, EnoughPlaces}
 use Rattle.job.specs.Whole.{whole}
 use Rattle.job.proofs.Stores.{stores_spelled}
 use Rattle.tape.specs.Decoding.{records}
-use Rattle.tape.specs.ReadBack.{Accepted, ReadsBack}
+use Rattle.tape.specs.ReadBack.{ReadsBack}
 
 all_commands : (cs : List Command) → flat_map commands_of (map Path cs) ≡ cs
 all_commands [] = refl

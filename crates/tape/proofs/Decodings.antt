@@ -1,5 +1,5 @@
 -- Records are read back.
-use Rattle.std.proofs.Common.{◌≡◌, ℕ, suc, zero, ◌+◌, ◌≤◌, List, [], ◌∷◌, ◌++◌, map, length, drop, sym, refl, ap, ◌∙◌, subst, arith, length-append}
+use Rattle.std.proofs.Common.{◌≡◌, ℕ, suc, zero, ◌≤◌, List, [], ◌∷◌, ◌++◌, map, length, drop, sym, refl, ap, ◌∙◌, subst, arith, length-append}
 use Rattle.std.proofs.lemmas.List.{drop_at}
 use Rattle.path.specs.declared.command.Command.{Command}
 use Rattle.codec.specs.declared.item.Item.TheVariants.{Path}
@@ -39,3 +39,6 @@ spells_more bytes c s last =
     let is : bytes ++ record_of c ≡ records cs = ap (λ bs. bs ++ record_of c) s.whole ∙ sym (records_more (commands_in bytes) c) in
     let read : commands_in (bytes ++ record_of c) ≡ cs = ap commands_in is ∙ commands_records cs fitting in
     (record { whole = is ∙ ap records (sym read); fitting = subst (λ ds. AllFitting (map Path ds)) (sym read) fitting }, read)
+
+pub shorter_in : (bytes : List ℕ) → Spells bytes → length (commands_in bytes) ≤ length bytes
+shorter_in bytes s = subst (λ bs. length (commands_in bytes) ≤ length bs) (sym s.whole) (shorter (commands_in bytes))

@@ -1,3 +1,4 @@
 mod Backs
 mod Decodings
+mod Nexts
 mod Taking

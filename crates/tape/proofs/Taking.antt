@@ -67,7 +67,7 @@ after_taken bytes count c size {new} holds t =
     let w : Written = record { commands = commands_in (take count bytes.now); bytes = bytes } in
     let place : length (records w.commands) ≡ count = used bytes.now count holds in
     let fit : takes (spelling w) c ≡ true =
-        ap (λ p. nat_le p (length bytes.now - length (records w.commands))) (sym (priced c)) ∙ ap (λ n. nat_le (length (record_of c)) (length bytes.now - n)) place ∙ t.room in
+    ap (λ p. nat_le p (length bytes.now - length (records w.commands))) (sym (priced c)) ∙ ap (λ n. nat_le (length (record_of c)) (length bytes.now - n)) place ∙ t.room in
     let new_is : new ≡ written bytes.now (length (records w.commands)) (record_of c) = t.row ∙ ap (λ n. written bytes.now n (record_of c)) (sym place) in
     let is : record { commands = commands_in (take (count + size) new); bytes = at_last bytes new } ≡ grown w c = λ i. record { commands = t.commands i; bytes = at_last bytes (new_is i) } in
     is ∙ sym (ap (λ b. cond b (grown w c) w) fit)

@@ -1,7 +1,6 @@
 -- A tape with one command more means the list with that command joined.
-use Rattle.std.specs.Prelude.{◌≡◌, ◌+◌, ◌-◌, ◌≤◌, T, [], ◌∷◌, ◌++◌, map, length, refl}
-use Rattle.std.specs.List.{flat_map}
-use Rattle.std.proofs.Common.{sym, ap, ◌∙◌, List, ℕ, take, drop, subst, leb→le, append_assoc, append-nil, arith, length-append, length-take, length-drop}
+use Rattle.std.specs.Prelude.{◌≡◌, ◌+◌, ◌-◌, ◌≤◌, T, [], ◌∷◌, ◌++◌, length, refl}
+use Rattle.std.proofs.Common.{sym, ap, ◌∙◌, List, ℕ, leb→le, append_assoc, append-nil, arith, length-append, length-take, length-drop}
 use Rattle.path.specs.declared.command.Command.{Command}
 use Rattle.path.specs.declared.command.Command.TheVariants.{MoveTo, LineTo, CurveTo, QuadTo, Close}
 use Rattle.path.specs.Kinds.{kind}
@@ -39,5 +38,5 @@ spelling_grows w c fits =
     let row = record_of c in
     let room : used + length row ≤ length bytes = omega (arith, leb→le (price (kind c)) (length bytes - used) fits, priced c, costs c) in
     let units : length (written bytes used row) - length (records (w.commands ++ (c ∷ []))) ≡ (length bytes - used) - price (kind c) =
-        rw (length_written bytes used row room, records_more w.commands c) (simp length-append (omega (arith, priced c))) in
+    rw (length_written bytes used row room, records_more w.commands c) (simp length-append (omega (arith, priced c))) in
     λ i. record { list = w.commands ++ (c ∷ []); units = units i; price = price; map = λ d. d }

@@ -1,6 +1,6 @@
 ghost use Rattle.std.specs.Prelude.{◌≡◌, ◌<◌, ◌^◌, length, refl};
 ghost use Rattle.tape.specs.Decoding.{records};
-ghost use Rattle.tape.specs.ReadBack.{ReadsBack, Before, ReadsNext};
+ghost use Rattle.tape.specs.ReadBack.{ReadsBack, Before, ReadsNext, command_of};
 ghost use Rattle.tape.specs.Tapes.{blank, spelling, grown};
 ghost use Rattle.tape.specs.TapeLaws.{spelling_grows};
 
@@ -23,8 +23,8 @@ pub struct Tape<'a> {
 impl<'a> Model for Tape<'a> {
     ghost use Rattle.std.specs.Prelude.{◌≤◌, length, take};
     ghost use Rattle.tape.specs.Decoding.{commands_in, Spells};
-    ghost use Rattle.tape.specs.ReadBack.{ReadsBack, Before, ReadsNext};
-ghost use Rattle.tape.specs.Tapes.{Written};
+    ghost use Rattle.tape.specs.ReadBack.{ReadsBack, Before, ReadsNext, command_of};
+    ghost use Rattle.tape.specs.Tapes.{Written};
 
     ghost Value = { Written };
 
@@ -65,7 +65,17 @@ fn next_command(reader: &mut JobReader) -> Option<Command>
     ensures { ReadsNext reader.old result reader.new }
 {
     match reader.next() {
-        Ok(Some(Item::Path(command))) => Some(command),
+        Ok(Some(item)) => command_of(item),
+        Ok(None) => None,
+        Err(_) => None,
+    }
+}
+
+fn command_of(item: Item) -> Option<Command>
+    ensures { result ≡ command_of item }
+{
+    match item {
+        Item::Path(command) => Some(command),
         _ => None,
     }
 }

@@ -1,7 +1,6 @@
-use Rattle.std.proofs.Common.{◌∙◌, ap, subst}
+use Rattle.std.proofs.Common.{◌∙◌, subst}
 use Rattle.tape.specs.Tapes.{Written}
 use Rattle.tape.specs.ReadBack.{ReadsBack}
-use Rattle.tape.specs.Decoding.{commands_in}
 use Rattle.tape.proofs.Backs.{reads_back}
 use Rattle.tape.proofs.tape.Tape.finish.Goals as goal
 

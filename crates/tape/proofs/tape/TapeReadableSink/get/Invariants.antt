@@ -1,4 +1,4 @@
-use Rattle.std.proofs.Common.{◌≡◌, drop}
+use Rattle.std.proofs.Common.{drop}
 use Rattle.tape.specs.ReadBack.{Before}
 use Rattle.tape.proofs.tape.TapeReadableSink.get.Given as goal
 

@@ -1,4 +1,4 @@
-use Rattle.std.proofs.Common.{◌≡◌, ◌+◌, ◌-◌, ◌≤◌, List, length}
+use Rattle.std.proofs.Common.{◌≡◌, ◌+◌, ◌-◌, List, length}
 use Rattle.path.specs.declared.command.Command.{Command}
 use Rattle.tape.specs.ReadBack.{Before}
 use Rattle.tape.proofs.tape.TapeReadableSink.len.Given as goal
