@@ -74,6 +74,7 @@ fn stroke_lawfully<S: Sink, B: Storage, K: MathsHost>(
     host: &mut K,
 ) -> Result<Tally, Refusal>
     ensures whole { record { answer = result; sink = sink.new; storage = storage.new; host = host.new } ≡ stroked S.meaning S.took B.held B.capacity B.cleared B.pushed K.asked budget (K.functions host.old) commands.now style dashes.now sink.old storage.old host.old }
+    ensures functions { K.functions host.new ≡ K.functions host.old }
     ensures seen { let o = stroked_held S.meaning S.took K.asked budget (K.functions host.old) commands.now style dashes.now sink.old (held_by B.held B.capacity storage.old) host.old in (result ≡ o.answer) × (sink.new ≡ o.sink) × (host.new ≡ o.host) }
     ensures promised { Promised (call commands.now style dashes.now (K.functions host.old) (B.capacity storage.old) budget result) (S.meaning sink.old) (S.meaning sink.new) }
     ensures lawful { (earlier : List Call) → History earlier (S.meaning sink.old) → Lawful (call commands.now style dashes.now (K.functions host.old) (B.capacity storage.old) budget result ∷ earlier) (S.meaning sink.new) }
