@@ -24,4 +24,6 @@ mod storages;
 #[cfg(test)]
 mod strokes;
 #[cfg(test)]
+mod tapes;
+#[cfg(test)]
 mod vectors;
