@@ -9,8 +9,8 @@ use Rattle.codec.specs.Reading.{first}
 use Rattle.job.specs.declared.reader.JobReader.{JobReader}
 use Rattle.job.specs.Readers.{answer_by, reader_by, next_answer, next_reader}
 use Rattle.job.specs.Laws.{ReadsSpelled}
-use Rattle.tape.specs.Decoding.{records}
-use Rattle.tape.specs.ReadBack.{Before, ReadsNext, command_of}
+use Rattle.tape.specs.Decoding.{records, command_of}
+use Rattle.tape.specs.ReadBack.{Before, ReadsNext}
 
 abbrev pub next_of : Result (Option Item) Refusal → Option Command
 next_of (Ok None) = None

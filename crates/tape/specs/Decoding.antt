@@ -13,20 +13,25 @@ use Rattle.job.specs.Laws.{AllFitting}
 abbrev pub records : List Command → List ℕ
 records cs = flat_map spelled (map Path cs)
 
--- a command of a number of bytes, and what is spelled after it; at what is no command the list ends
-abbrev pub command_then : Item → List Command → List Command
-command_then (Width x) rest = []
-command_then (Join j) rest = []
-command_then (MiterLimit x) rest = []
-command_then (StartCap k) rest = []
-command_then (EndCap k) rest = []
-command_then (Offset x) rest = []
-command_then (Dash x) rest = []
-command_then (Path c) rest = c ∷ rest
+-- an item of the path
+abbrev pub command_of : Item → Option Command
+command_of (Width x) = None
+command_of (Join j) = None
+command_of (MiterLimit x) = None
+command_of (StartCap k) = None
+command_of (EndCap k) = None
+command_of (Offset x) = None
+command_of (Dash x) = None
+command_of (Path c) = Some c
+
+-- at what is no command the list ends
+abbrev pub first_of : Option Command → List Command → List Command
+first_of None rest = []
+first_of (Some c) rest = c ∷ rest
 
 abbrev pub found_then : Result (Option (Item × ℕ)) Reason → (ℕ → List Command) → List Command
 found_then (Ok None) rest = []
-found_then (Ok (Some x)) rest = command_then x.0 (rest x.1)
+found_then (Ok (Some x)) rest = first_of (command_of x.0) (rest x.1)
 found_then (Err e) rest = []
 
 -- n commands at most

@@ -1,13 +1,12 @@
 -- Reading a tape's bytes as a job.
-use Rattle.std.specs.Prelude.{◌≡◌, ℕ, ◌≤◌, min, List, [], map, length, drop, Ok, Some, None, Option, Float}
+use Rattle.std.specs.Prelude.{◌≡◌, ℕ, ◌≤◌, min, List, [], map, length, drop, Ok, Option, Float}
 use Rattle.std.specs.Borrow.{Bor}
 use Rattle.std.specs.List.{slice_get}
 use denote.Ref.{MutBor}
 use Rattle.lent.specs.Lists.{items}
 use Rattle.path.specs.declared.command.Command.{Command}
 use Rattle.path.specs.Styles.{plain}
-use Rattle.codec.specs.declared.item.Item.TheVariants.{Width, Join, MiterLimit, StartCap, EndCap, Offset, Dash, Path}
-use Rattle.codec.specs.declared.item.Item.{Item}
+use Rattle.codec.specs.declared.item.Item.TheVariants.{Path}
 use Rattle.job.specs.declared.reader.JobReader.{JobReader}
 use Rattle.job.specs.Readers.{start, left}
 use Rattle.job.specs.Jobs.{empty_job}
@@ -26,17 +25,6 @@ pub record Accepted (cs : List Command) (o : Outcome (Unit {0})) : Type 0 where
 abbrev pub ReadsBack : List Command → Bor (List ℕ) → Type 0
 ReadsBack cs bytes = (commands : MutBor (List Command)) (dashes : MutBor (List Float)) → length cs ≤ min 4096 (length commands.now)
     → Accepted cs (whole (start bytes) (empty_job commands dashes))
-
--- an item of the path
-abbrev pub command_of : Item → Option Command
-command_of (Width x) = None
-command_of (Join j) = None
-command_of (MiterLimit x) = None
-command_of (StartCap k) = None
-command_of (EndCap k) = None
-command_of (Offset x) = None
-command_of (Dash x) = None
-command_of (Path c) = Some c
 
 -- a reader that has these commands before it
 pub record Before (r : JobReader) (cs : List Command) : Type 0 where

@@ -1,6 +1,6 @@
 ghost use Rattle.std.specs.Prelude.{◌≡◌, ◌<◌, ◌^◌, length, refl};
-ghost use Rattle.tape.specs.Decoding.{records};
-ghost use Rattle.tape.specs.ReadBack.{ReadsBack, Before, ReadsNext, command_of};
+ghost use Rattle.tape.specs.Decoding.{records, command_of};
+ghost use Rattle.tape.specs.ReadBack.{ReadsBack, Before, ReadsNext};
 ghost use Rattle.tape.specs.Tapes.{blank, spelling, grown};
 ghost use Rattle.tape.specs.TapeLaws.{spelling_grows};
 
@@ -23,7 +23,6 @@ pub struct Tape<'a> {
 impl<'a> Model for Tape<'a> {
     ghost use Rattle.std.specs.Prelude.{◌≤◌, length, take};
     ghost use Rattle.tape.specs.Decoding.{commands_in, Spells};
-    ghost use Rattle.tape.specs.ReadBack.{ReadsBack, Before, ReadsNext, command_of};
     ghost use Rattle.tape.specs.Tapes.{Written};
 
     ghost Value = { Written };
