@@ -84,14 +84,8 @@ const KINDS: &[(u32, &str, Maker)] = &[
 ];
 
 fn any_arc(generator: &mut Generator) -> (&'static str, Arc) {
-    let mut left = generator.below(KINDS.iter().map(|kind| kind.0).sum());
-    for &(weight, name, maker) in KINDS {
-        if left < weight {
-            return (name, maker(generator));
-        }
-        left -= weight;
-    }
-    unreachable!("the weights add up")
+    let (_, name, maker) = KINDS[generator.by_weight(KINDS)];
+    (name, maker(generator))
 }
 
 /// From 0.005 to 2048, as often small as large.

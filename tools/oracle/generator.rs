@@ -43,4 +43,16 @@ impl Generator {
     pub fn pick<T: Copy>(&mut self, list: &[T]) -> T {
         list[self.below(list.len() as u32) as usize]
     }
+
+    /// The place of a row, as often as its weight says.
+    pub fn by_weight<M>(&mut self, rows: &[(u32, &str, M)]) -> usize {
+        let mut left = self.below(rows.iter().map(|row| row.0).sum());
+        for (place, row) in rows.iter().enumerate() {
+            if left < row.0 {
+                return place;
+            }
+            left -= row.0;
+        }
+        unreachable!("the weights add up")
+    }
 }

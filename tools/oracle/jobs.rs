@@ -37,14 +37,8 @@ pub fn job(generator: &mut Generator) -> (&'static str, Vec<u8>) {
 }
 
 fn path(generator: &mut Generator) -> (&'static str, Vec<Command>) {
-    let mut left = generator.below(KINDS.iter().map(|kind| kind.0).sum());
-    for &(weight, name, maker) in KINDS {
-        if left < weight {
-            return (name, maker(generator));
-        }
-        left -= weight;
-    }
-    unreachable!("the weights add up")
+    let (_, name, maker) = KINDS[generator.by_weight(KINDS)];
+    (name, maker(generator))
 }
 
 /// One of the paths that are drawn elsewhere, seldom one with a coordinate past the limits.

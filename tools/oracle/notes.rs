@@ -227,15 +227,9 @@ fn numbered_arc(seed: u64, number: u64) -> Option<Noted> {
 }
 
 fn any_arc(generator: &mut Generator) -> Option<Noted> {
-    let mut left = generator.below(KINDS.iter().map(|kind| kind.0).sum());
-    for (number, &(weight, _, planner)) in (0..).zip(KINDS) {
-        if left < weight {
-            let plan = planner(generator);
-            return Noted::new(number, drawn(generator, plan));
-        }
-        left -= weight;
-    }
-    unreachable!("the weights add up")
+    let number = generator.by_weight(KINDS);
+    let plan = KINDS[number].2(generator);
+    Noted::new(number as u8, drawn(generator, plan))
 }
 
 fn between(generator: &mut Generator, low: f64, high: f64) -> f64 {

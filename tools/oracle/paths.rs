@@ -160,14 +160,8 @@ impl Pen<'_> {
     }
 
     fn kind(&mut self) -> (&'static str, Step) {
-        let mut left = self.below(KINDS.iter().map(|kind| kind.0).sum());
-        for &(weight, name, step) in KINDS {
-            if left < weight {
-                return (name, step);
-            }
-            left -= weight;
-        }
-        unreachable!("the weights add up")
+        let (_, name, step) = KINDS[self.generator.by_weight(KINDS)];
+        (name, step)
     }
 
     // A path of some kind, whose name is the answer.
