@@ -1,0 +1,109 @@
+//! Strokes, by the static library: safe calls, over bytes that the caller lends.
+#![allow(dead_code)]
+
+#[repr(C)]
+#[derive(Clone, Copy, Default)]
+struct Answer {
+    length: u64,
+    sent: u64,
+    place: u64,
+    steps: u32,
+    refusal: u32,
+}
+
+unsafe extern "C" {
+    fn stroke_job(job: *const u8, job_length: usize, bytes: *mut u8, bytes_length: usize, answer: *mut Answer);
+
+    fn stroke_job_stored(
+        job: *const u8,
+        job_length: usize,
+        segments: usize,
+        bytes: *mut u8,
+        bytes_length: usize,
+        answer: *mut Answer,
+    ) -> bool;
+
+    fn stroke_job_by_rows(
+        rows: *const u8,
+        rows_length: usize,
+        job: *const u8,
+        job_length: usize,
+        segments: usize,
+        bytes: *mut u8,
+        bytes_length: usize,
+        answer: *mut Answer,
+    ) -> bool;
+}
+
+/// What was drawn: the commands' bytes, and the tally or the refusal.
+#[derive(Clone, Copy, Debug, PartialEq)]
+pub struct Stroked<'a> {
+    pub bytes: &'a [u8],
+    pub sent: u64,
+    pub ended: Result<Steps, Refusal>,
+}
+
+/// How many dash steps were taken.
+#[derive(Clone, Copy, Debug, PartialEq, Eq)]
+pub struct Steps(pub u32);
+
+/// The refusal's number, and where it stopped.
+#[derive(Clone, Copy, Debug, PartialEq, Eq)]
+pub struct Refusal {
+    pub number: u32,
+    pub place: u64,
+}
+
+/// There is no memory for the storage or the rows.
+#[derive(Clone, Copy, Debug, PartialEq, Eq)]
+pub struct NoMemory;
+
+fn stroked(bytes: &[u8], answer: Answer) -> Stroked<'_> {
+    let ended = match answer.refusal {
+        0 => Ok(Steps(answer.steps)),
+        number => Err(Refusal { number, place: answer.place }),
+    };
+    Stroked { bytes: &bytes[..answer.length as usize], sent: answer.sent, ended }
+}
+
+/// With the library's own maths and a storage of 128 segments.
+pub fn stroke<'a>(job: &[u8], bytes: &'a mut [u8]) -> Stroked<'a> {
+    let mut answer = Answer::default();
+    // SAFETY: each pointer comes from a slice or a reference, with its length.
+    unsafe { stroke_job(job.as_ptr(), job.len(), bytes.as_mut_ptr(), bytes.len(), &mut answer) };
+    stroked(bytes, answer)
+}
+
+/// With the library's own maths and a storage of so many segments.
+pub fn stroke_stored<'a>(job: &[u8], segments: usize, bytes: &'a mut [u8]) -> Result<Stroked<'a>, NoMemory> {
+    let mut answer = Answer::default();
+    // SAFETY: as above.
+    let whole = unsafe {
+        stroke_job_stored(job.as_ptr(), job.len(), segments, bytes.as_mut_ptr(), bytes.len(), &mut answer)
+    };
+    if whole { Ok(stroked(bytes, answer)) } else { Err(NoMemory) }
+}
+
+/// By rows of nine bytes as the maths, and a storage of so many segments.
+pub fn stroke_by_rows<'a>(
+    rows: &[u8],
+    job: &[u8],
+    segments: usize,
+    bytes: &'a mut [u8],
+) -> Result<Stroked<'a>, NoMemory> {
+    let mut answer = Answer::default();
+    // SAFETY: as above.
+    let whole = unsafe {
+        stroke_job_by_rows(
+            rows.as_ptr(),
+            rows.len(),
+            job.as_ptr(),
+            job.len(),
+            segments,
+            bytes.as_mut_ptr(),
+            bytes.len(),
+            &mut answer,
+        )
+    };
+    if whole { Ok(stroked(bytes, answer)) } else { Err(NoMemory) }
+}
