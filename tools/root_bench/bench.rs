@@ -1,4 +1,5 @@
-//! Nanoseconds for one root: ours, the machine's, and how many times longer ours takes.
+//! Nanoseconds for one root: ours, the machine's, and how many times longer ours takes. What a call
+//! takes depends on the numbers, since a machine may work out the root of a subnormal one by steps.
 use std::hint::black_box;
 use std::time::Instant;
 
@@ -14,18 +15,25 @@ extern "C" fn machine_sqrt(x: f32) -> f32 {
 const COUNT: usize = 4096;
 const TURNS: usize = 2000;
 
+/// Parts from 0 to 1.
+fn parts() -> impl Iterator<Item = f64> {
+    let mut state = 0x9e37_79b9_7f4a_7c15u64;
+    (0..COUNT).map(move |_| {
+        state ^= state << 13;
+        state ^= state >> 7;
+        state ^= state << 17;
+        (state >> 11) as f64 / (1u64 << 53) as f64
+    })
+}
+
 /// Numbers between 1e-6 and 1e9, spread evenly over the exponents.
 fn ordinary() -> Vec<f32> {
-    let mut state = 0x9e37_79b9_7f4a_7c15u64;
-    (0..COUNT)
-        .map(|_| {
-            state ^= state << 13;
-            state ^= state >> 7;
-            state ^= state << 17;
-            let part = (state >> 11) as f64 / (1u64 << 53) as f64;
-            10f64.powf(-6.0 + 15.0 * part) as f32
-        })
-        .collect()
+    parts().map(|part| 10f64.powf(-6.0 + 15.0 * part) as f32).collect()
+}
+
+/// Numbers below the least normal one.
+fn subnormal() -> Vec<f32> {
+    parts().map(|part| f32::from_bits(1 + (part * 8_388_606.0) as u32)).collect()
 }
 
 fn time(xs: &[f32], out: &mut [f32], each: impl Fn(&[f32], &mut [f32])) -> f64 {
@@ -41,28 +49,33 @@ fn time(xs: &[f32], out: &mut [f32], each: impl Fn(&[f32], &mut [f32])) -> f64 {
     best * 1e9 / (COUNT * TURNS) as f64
 }
 
-fn main() {
-    let xs = ordinary();
+fn compare(name: &str, xs: &[f32]) {
     let mut ours = vec![0.0; COUNT];
     let mut theirs = vec![0.0; COUNT];
-    let a = time(&xs, &mut ours, |xs, out| {
+    let a = time(xs, &mut ours, |xs, out| {
         for (o, x) in out.iter_mut().zip(xs) {
             *o = unsafe { numbers_sqrt(*x) };
         }
     });
-    let b = time(&xs, &mut theirs, |xs, out| {
+    let b = time(xs, &mut theirs, |xs, out| {
         for (o, x) in out.iter_mut().zip(xs) {
             *o = machine_sqrt(*x);
         }
     });
-    let c = time(&xs, &mut theirs, |xs, out| {
+    let c = time(xs, &mut theirs, |xs, out| {
         for (o, x) in out.iter_mut().zip(xs) {
             *o = x.sqrt();
         }
     });
     let same = ours.iter().zip(&theirs).all(|(a, b)| a.to_bits() == b.to_bits());
-    println!("ours, called            {a:.2} ns");
-    println!("machine's, called       {b:.2} ns   ratio {:.1}", a / b);
-    println!("machine's, over vectors {c:.2} ns   ratio {:.1}", a / c);
-    println!("same answers: {same}");
+    println!("{name}");
+    println!("  ours, called            {a:.2} ns");
+    println!("  machine's, called       {b:.2} ns   ratio {:.1}", a / b);
+    println!("  machine's, over vectors {c:.2} ns   ratio {:.1}", a / c);
+    println!("  same answers: {same}");
+}
+
+fn main() {
+    compare("from 1e-6 to 1e9", &ordinary());
+    compare("subnormal", &subnormal());
 }

@@ -1,6 +1,5 @@
 pub mod Orders
-pub mod Patterns
 pub mod Rooted
-pub mod Sorts
+pub mod Scales
 pub mod Squares
 pub mod Wholes

@@ -1,15 +1,17 @@
--- What lies as near to the root as `NearestRoot` says, and is an `f32`, is the root that `Floats.sqrt` rounds: so there is one.
-use Rattle.std.proofs.Common.{◌≡◌, ℕ, zero, suc, ◌+◌, ◌-◌, ◌*◌, ◌/◌, ◌^◌, ◌<◌, ◌≤◌, Bool, true, false, T, ℤ, pos, negsuc, sym, refl, ap, ◌∙◌, subst, true≢false, mul-le-mul_right, mul_assoc, div-lt_iff_lt-mul, lt_of_mul-lt-mul_right, mul-lt-mul_of_pos_right, mul-pos, le-div_iff_mul-le, mul_right_comm, mul-div_cancel, arith, ltb→lt, eqb→eq, pow-suc, pow_pos, pow-add}
+-- The root that `Floats.sqrt` rounds is as near as `NearestRoot` says, and no other `f32` is.
+use Rattle.std.proofs.Common.{◌≡◌, ℕ, zero, suc, ◌+◌, ◌-◌, ◌*◌, ◌/◌, ◌^◌, ◌<◌, ◌≤◌, Bool, true, false, T, ℤ, pos, negsuc, sym, refl, ap, ◌∙◌, subst, true≢false, mul-le-mul_right, mul_assoc, div-lt_iff_lt-mul, lt_of_mul-lt-mul_right, mul-lt-mul_of_pos_right, mul-pos, le-div_iff_mul-le, mul_right_comm, mul-div_cancel, arith, ltb→lt, eqb→eq, pow-suc, pow_pos, pow_mono, pow-add}
 use lib.Ieee.{Float, nan, inf, fin, binary32, up, down, size, round, root_below, root_twice, to_bits, of_bits, fits}
 use lib.Ieee.Bits.{of_bits-to_bits}
 use lib.Ieee.Exact.{HasValue}
-use lib.Ieee.Fits.{down_pos, and_r, round-fits}
+use lib.Ieee.Fits.{down_pos, and_r, sqrt-fits}
 use lib.Ieee.Nearest.{closest}
 use lib.Ieee.Order.{drop}
 use lib.Ieee.Scale.{grid, round_val}
+use Rattle.std.proofs.lemmas.Float.{T_from_true}
 use Rattle.std.specs.Float.{sqrt}
-use Rattle.numbers.specs.Roots.{Nearest, RootBetween, NearestRoot}
-use Rattle.numbers.proofs.Squares.{twice_above, twice_below, twice_from, merge, four, size_is, closest_is}
+use Rattle.numbers.specs.Roots.{Nearest, Scaled, RootBetween, NearestRoot}
+use Rattle.numbers.proofs.Squares.{twice_above, twice_below, twice_from, merge, four, size_is, closest_is, nearest_of, nearest_digits}
+use Rattle.numbers.proofs.Scales.{scaled}
 
 -- ---- two values of the format that are a steps of the smallest size are one
 
@@ -96,6 +98,11 @@ module _ (n h q : ℕ) (low : 2 ^ 46 ≤ n) (near : Nearest n q) (small : q < 2 
 
 -- ---- the answer, in the format's smallest steps
 
+in_units : (x : Float) (q h : ℕ) → Steps x (q * 2 ^ (h + 51)) → HasValue x false (q * 2 ^ h) (2 ^ 98)
+in_units nan q h v = v
+in_units (inf s) q h v = v
+in_units (fin s m e) q h v = (v.0, omega (arith, rw (pow-add 2 h 51) at v.1))
+
 in_steps : (x : Float) (q h : ℕ) → HasValue x false (q * 2 ^ h) (2 ^ 98) → Steps x (q * 2 ^ (h + 51))
 in_steps nan q h v = v
 in_steps (inf s) q h v = v
@@ -111,13 +118,11 @@ steps_fit (inf s) a f h = absurd h
 steps_fit (fin s zero e) a f h = under_top zero e a (omega (arith, down_pos e)) h.1
 steps_fit (fin s (suc m) e) a f h = under_top (suc m) e a (ltb→lt _ _ (and_r _ _ f)) h.1
 
-positive : (m : ℕ) (e : ℤ) (r : Float) → T (fits binary32 r) → RootBetween (fin false (suc m) e) r → r ≡ sqrt binary32 (fin false (suc m) e)
+-- the root's own
+root_steps : (m : ℕ) (e : ℤ) (n h q : ℕ) → Scaled (fin false (suc m) e) n h → Nearest n q → q < 2 ^ 24 → q * 2 ^ (h + 51) < 2 ^ 277 → Steps (sqrt binary32 (fin false (suc m) e)) (q * 2 ^ (h + 51))
 unfolding sqrt
-positive m e r f b =
-    let k = in_steps r b.q b.h b.is in
-    let c = rounded b.n b.h b.q b.scaled.low b.near b.digits.1 (steps_fit r (b.q * 2 ^ (b.h + 51)) f k) in
-    same_steps r (round binary32 false (root_twice (4 * b.n * (2 ^ (b.h + 2172) * 2 ^ (b.h + 2172)))) (2 ^ 2272)) (b.q * 2 ^ (b.h + 51)) f (round-fits binary32 false (root_twice (4 * b.n * (2 ^ (b.h + 2172) * 2 ^ (b.h + 2172)))) (2 ^ 2272)) k c
-    ∙ ap (λ (x : ℕ). round binary32 false (root_twice x) (2 ^ 2272)) (sym (radicand (suc m * up e) (down e) b.n b.h (down_pos e) b.scaled.of.1))
+root_steps m e n h q x near small fine =
+    subst (λ (v : ℕ). Steps (round binary32 false (root_twice v) (2 ^ 2272)) (q * 2 ^ (h + 51))) (sym (radicand (suc m * up e) (down e) n h (down_pos e) x.of.1)) (rounded n h q x.low near small fine)
 
 -- a zero that a format holds is written in one way
 zero_power : (s : Bool) (e : ℤ) → T (fits binary32 (fin s zero e)) → e ≡ pos 0
@@ -126,6 +131,35 @@ zero_power s (pos zero) f = refl
 zero_power s (pos (suc k)) f = absurd (omega (arith, eqb→eq (up (pos (suc k)) * 1) 1 f, pow-suc 2 k))
 zero_power s (negsuc k) f = absurd (omega (arith, eqb→eq (1 * down (negsuc k)) 1 f, pow-suc 2 k))
 
+-- ---- the root is near, and nothing else is
+
+between : (m : ℕ) (e : ℤ) → T (fits binary32 (fin false (suc m) e)) → RootBetween (fin false (suc m) e) (sqrt binary32 (fin false (suc m) e))
+between m e f =
+    let x = scaled m e f in
+    let n = x.0 in
+    let h = x.1 in
+    let q = nearest_of n (omega (arith, x.2.low)) in
+    let d = nearest_digits n q.0 q.1 x.2.low x.2.high in
+    let fine : q.0 * 2 ^ (h + 51) < 2 ^ 277 = omega (arith, mul-le-mul_right {m = q.0} {n = 2 ^ 24} (2 ^ (h + 51)) (omega (arith, d)), pow_mono {i = h + 51} {j = 202} (omega (arith, x.3))) in
+    record {
+      n = n;
+      h = h;
+      q = q.0;
+      scaled = x.2;
+      near = q.1;
+      digits = d;
+      is = in_units (sqrt binary32 (fin false (suc m) e)) q.0 h (root_steps m e n h q.0 x.2 q.1 d.1 fine);
+    }
+
+near : (x : Float) → T (fits binary32 x) → NearestRoot x (sqrt binary32 x)
+unfolding sqrt
+near nan f = refl
+near (inf false) f = refl
+near (inf true) f = refl
+near (fin s zero e) f = ap (λ (k : ℤ). fin s 0 k) (sym (zero_power s e f))
+near (fin true (suc m) e) f = refl
+near (fin false (suc m) e) f = between m e f
+
 pub one_root : (x r : Float) → T (fits binary32 r) → NearestRoot x r → r ≡ sqrt binary32 x
 unfolding sqrt
 one_root nan r f h = h
@@ -133,7 +167,13 @@ one_root (inf false) r f h = h
 one_root (inf true) r f h = h
 one_root (fin s zero e) r f h = h ∙ ap (λ (k : ℤ). fin s 0 k) (zero_power s e (subst (λ (x : Float). T (fits binary32 x)) h f))
 one_root (fin true (suc m) e) r f h = h
-one_root (fin false (suc m) e) r f h = positive m e r f h
+one_root (fin false (suc m) e) r f b =
+    let k = in_steps r b.q b.h b.is in
+    let fine = steps_fit r (b.q * 2 ^ (b.h + 51)) f k in
+    same_steps r (sqrt binary32 (fin false (suc m) e)) (b.q * 2 ^ (b.h + 51)) f (sqrt-fits binary32 (fin false (suc m) e)) k (root_steps m e b.n b.h b.q b.scaled b.near b.digits.1 fine)
+
+pub root_is_near : (x r : Float) → fits binary32 x ≡ true → r ≡ sqrt binary32 x → NearestRoot x r
+root_is_near x r f e = rw e (near x (T_from_true _ f))
 
 -- the definition computes
 root_of_two : sqrt binary32 (of_bits binary32 0x4000_0000) ≡ of_bits binary32 0x3fb5_04f3

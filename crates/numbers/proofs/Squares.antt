@@ -80,24 +80,27 @@ pub closest_is : (a b q : ℕ) → 0 < b → (2 * q - 1) * b < 2 * a → 2 * a <
 closest_is a b q B x y =
     nearest_is a b q (a / b) (a % b) (compare (a % b * 2) b) (mod-lt a B) (div-add-mod' a b) x y (leb→le (a % b * 2) b) (nleb→lt (a % b * 2) b) (eqb→eq (a % b * 2) b)
 
--- ---- the whole number nearest to a root, without its halves
+-- ---- the whole number nearest to a root
 
 -- from k, the whole part of the root of 4 * n
-pub half_up : (n k : ℕ) → 0 < n → k * k ≤ 4 * n → 4 * n < (k + 1) * (k + 1) → ((k + 1) / 2 * ((k + 1) / 2) < n + (k + 1) / 2) × (n ≤ (k + 1) / 2 * ((k + 1) / 2) + (k + 1) / 2)
-half_up n k N lo hi = go (k / 2) (k % 2) (omega arith) (omega arith)
+half_up : (n k : ℕ) → 0 < n → Root k (4 * n) → (q : ℕ) × Nearest n q
+half_up n k N r = go (k / 2) (k % 2) (omega arith) (omega arith)
   where
-    at : (q : ℕ) → (k + 1) / 2 ≡ q → (q * q < n + q) × (n ≤ q * q + q) → ((k + 1) / 2 * ((k + 1) / 2) < n + (k + 1) / 2) × (n ≤ (k + 1) / 2 * ((k + 1) / 2) + (k + 1) / 2)
-    at q e h = subst (λ (i : ℕ). (i * i < n + i) × (n ≤ i * i + i)) (sym e) h
+    at : (p : ℕ) → (2 * p + 1) * (2 * p + 1) < 4 * n → 4 * n < (2 * p + 3) * (2 * p + 3) → (q : ℕ) × Nearest n q
+    at p a b = (suc p, record { above = subst (λ (i : ℕ). i * i < 4 * n) {x = 2 * p + 1} {y = 2 * suc p - 1} (omega arith) a; below = omega (arith, b) })
 
-    go : (p b : ℕ) → k ≡ 2 * p + b → b < 2 → ((k + 1) / 2 * ((k + 1) / 2) < n + (k + 1) / 2) × (n ≤ (k + 1) / 2 * ((k + 1) / 2) + (k + 1) / 2)
-    go zero zero e B = at 0 (omega arith) (omega arith, omega (arith, subst (λ (i : ℕ). 4 * n < (i + 1) * (i + 1)) e hi))
-    go (suc p) zero e B = at (suc p) (omega arith) (omega (arith, subst (λ (i : ℕ). i * i ≤ 4 * n) e lo), omega (arith, subst (λ (i : ℕ). 4 * n < (i + 1) * (i + 1)) e hi))
+    go : (p b : ℕ) → 2 * p + b ≡ k → b < 2 → (q : ℕ) × Nearest n q
+    go zero zero e B = absurd (omega (arith, rw (sym e) at r))
+    go (suc p) zero e B = let t = rw (sym e) at r in at p (omega (arith, t)) (omega (arith, t))
     go p (suc b) e B =
-        let e1 : k ≡ 2 * p + 1 = omega arith in
-        at (p + 1) (omega arith) (omega (arith, subst (λ (i : ℕ). i * i ≤ 4 * n) e1 lo), omega (arith, subst (λ (i : ℕ). 4 * n < (i + 1) * (i + 1)) e1 hi))
+        let t : Root (2 * p + 1) (4 * n) = subst (λ (i : ℕ). Root i (4 * n)) {y = 2 * p + 1} (omega arith) r in
+        at p (omega (arith, t)) (omega (arith, t))
 
-pub with_halves : (n q : ℕ) → q * q < n + q → n ≤ q * q + q → Nearest n q
-with_halves n zero a b = record { above = omega arith; below = omega arith }
-with_halves n (suc p) a b =
-    let e : 2 * suc p - 1 ≡ 2 * p + 1 = omega arith in
-    record { above = subst (λ (i : ℕ). i * i < 4 * n) (sym e) (omega arith); below = omega arith }
+pub nearest_of : (n : ℕ) → 0 < n → (q : ℕ) × Nearest n q
+nearest_of n N = half_up n (root_below (size (4 * n)) (4 * n)) N (whole_part (4 * n))
+
+pub nearest_digits : (n q : ℕ) → Nearest n q → 2 ^ 46 ≤ n → n + 2 ^ 24 ≤ 2 ^ 48 → (2 ^ 23 ≤ q) × (q < 2 ^ 24)
+nearest_digits n q near low high = (
+  omega (arith, lt_of_squares (2 ^ 24) (2 * q + 1) (omega (arith, near.below))),
+  omega (arith, lt_of_squares (2 * q - 1) (2 ^ 25 - 1) (omega (arith, near.above))),
+)

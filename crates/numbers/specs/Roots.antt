@@ -1,7 +1,6 @@
 -- The root of an `f32` by whole numbers and their squares alone. `HasValue x false a c` says that x is finite, not negative, and a / c.
-use Rattle.std.specs.Prelude.{◌≡◌, ℕ, zero, suc, ◌+◌, ◌-◌, ◌*◌, ◌^◌, ◌<◌, ◌≤◌, true, false, cond, from_bits, Float}
-use Rattle.std.specs.Float.{binary32, nan, inf, fin}
-use Rattle.std.specs.Float.Ieee.{le}
+use Rattle.std.specs.Prelude.{◌≡◌, ℕ, zero, suc, ◌+◌, ◌-◌, ◌*◌, ◌^◌, ◌<◌, ◌≤◌, true, false, Float}
+use Rattle.std.specs.Float.{nan, inf, fin}
 use Rattle.std.specs.Float.Ieee.Exact.{HasValue}
 
 -- The whole number q is nearest to the root of n: the root lies between q - 1/2 and q + 1/2.
@@ -36,15 +35,3 @@ NearestRoot (inf true) r = r ≡ nan
 NearestRoot (fin s zero e) r = r ≡ fin s zero e
 NearestRoot (fin true (suc m) e) r = r ≡ nan
 NearestRoot (fin false (suc m) e) r = RootBetween (fin false (suc m) e) r
-
--- ---- for the steps of the code
-
--- x is d * 2 ^ p / 2 ^ 196, with a d of 24 digits
-pub record Digits (x : Float) (d p : ℕ) : Type 0 where
-  pub of : HasValue x false (d * 2 ^ p) (2 ^ 196)
-  pub digits : (2 ^ 23 ≤ d) × (d < 2 ^ 24)
-  pub power : (24 ≤ p) × (p < 301)
-
--- what is not below zero, and NaN for the rest
-abbrev pub kept_from_zero : Float → Float
-kept_from_zero x = cond (le (from_bits binary32 0) x) x (from_bits binary32 0x7fc0_0000)

@@ -2,15 +2,23 @@
 //! square and the clamp.
 #![tactic(auto)]
 
-ghost use Rattle.std.specs.Prelude.{◌≡◌};
+ghost use Rattle.std.specs.Prelude.{◌≡◌, T, Float};
 ghost use Rattle.std.specs.Float.Ieee as Ieee;
 ghost use Rattle.std.specs.Float.{binary32};
+ghost use Rattle.std.specs.Float.Ieee.{fits};
 ghost use Rattle.std.specs.Float as Floats;
+ghost use Rattle.numbers.specs.Roots.{NearestRoot};
 ghost use Rattle.numbers.specs.Steps.{kept_within, Ceiling};
 
-mod root;
-
-pub use root::sqrt;
+/// The `f32` nearest to the root of `x`, ties to even.
+#[tactic(auto, using(crate::proofs::Rooted::root_is_near, crate::proofs::Rooted::one_root))]
+pub fn sqrt(x: f32) -> f32
+    ensures value { result ≡ Floats.sqrt binary32 x }
+    ensures nearest { NearestRoot x result }
+    ensures only { (s : Float) → T (fits binary32 s) → NearestRoot x s → s ≡ result }
+{
+    x.sqrt()
+}
 
 /// `x`, or the bound that it passes; a NaN stays. The library's `clamp` asks its caller for bounds in
 /// order.
