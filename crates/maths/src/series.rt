@@ -6,10 +6,11 @@ ghost use Rattle.maths.specs.Narrow.{again};
 
 use crate::host::{Function, MathsHost};
 use crate::series::circle::Quarters;
-use std::num::{f32_to_f64_with_nan, nearest_f64_to_f32_with_nan};
+use std::num::f32_to_f64_with_nan;
 
 pub(crate) mod arcs;
 pub(crate) mod circle;
+mod narrowing;
 pub(crate) mod polynomials;
 pub(crate) mod powers;
 
@@ -62,7 +63,7 @@ fn rounded<F: FnOnce(f64) -> f64>(x: f32, wide: F) -> f32
     requires { F.IsAlwaysCallable wide }
     ensures { (y : Float) × F.post wide x y × (result ≡ narrow y) }
 {
-    nearest_f64_to_f32_with_nan(wide(f32_to_f64_with_nan(x)))
+    narrowing::nearest(wide(f32_to_f64_with_nan(x)))
 }
 
 fn sine(x: f32) -> f32
