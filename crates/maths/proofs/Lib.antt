@@ -1,7 +1,7 @@
 pub mod Alike
 pub mod Asking
 mod Constants
-pub mod Narrowing
+mod Narrowing
 mod Remainders
 mod Rows
 mod Specials
