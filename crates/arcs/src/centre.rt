@@ -182,6 +182,7 @@ impl TurnedArc {
     }
 
     // The arc by its centre; `half` is half of its chord along the axes.
+    #[inline(always)]
     pub(crate) fn find_centre(self, half: Vector, scaled: bool) -> Centred
         ensures { result ≡ centred self.arc self.turned half scaled }
     {
@@ -194,6 +195,7 @@ impl TurnedArc {
     }
 
     // The same from lengths that are multiplied by k.
+    #[inline(always)]
     fn find_centre_by(self, chord: Chord, k: f32) -> Centred
         ensures { result ≡ centred_by self.arc self.turned chord.half chord.radii k }
     {

@@ -90,6 +90,7 @@ fn has_no_chord(half: Vector) -> bool
 
 // So many curves, each as far round as the others.
 #[tactic(auto, using(crate::proofs::Round::no_curves, crate::proofs::Round::no_questions))]
+#[inline(always)]
 fn curves_from<K: MathsHost>(ellipse: Ellipse, sweep: Sweep, host: &mut K) -> Few
     requires { sweep.count ≤ 4 }
     ensures answer { result.items ≡ all_curves sweep.count (K.functions host.old) ellipse sweep.start sweep.each }
@@ -106,6 +107,7 @@ fn curves_from<K: MathsHost>(ellipse: Ellipse, sweep: Sweep, host: &mut K) -> Fe
 }
 
 #[tactic(auto, using(crate::proofs::Round::sweep_few))]
+#[inline(always)]
 fn curves_round<K: MathsHost>(turned_arc: TurnedArc, centred: Centred, host: &mut K) -> Few
     ensures answer { result.items ≡ round_curves (K.functions host.old) turned_arc.arc turned_arc.turned centred }
     ensures host { host.new ≡ all_asked K.asked host.old (round_all_questions (K.functions host.old) turned_arc.arc centred) }
@@ -120,6 +122,7 @@ fn curves_round<K: MathsHost>(turned_arc: TurnedArc, centred: Centred, host: &mu
 /// lengths are brought near 1 before their fourth powers are formed: a parameter, since one definition
 /// serves the arcs of strokes too.
 #[tactic(auto, unfolding(crate::specs::Curves::arc_curves, crate::specs::Curves::arc_questions))]
+#[inline(always)]
 pub fn arc_curves<K: MathsHost>(arc: ArcTo, scaled: bool, host: &mut K) -> Few
     ensures answer { result.items ≡ arc_curves (K.functions host.old) scaled arc }
     ensures host { host.new ≡ all_asked K.asked host.old (arc_questions (K.functions host.old) scaled arc) }

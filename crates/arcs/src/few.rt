@@ -9,6 +9,7 @@ use path::command::Command;
 pub type Few = FixedList<Command, 4>;
 
 /// The first four of some commands, with a Close in every place after them.
+#[inline(always)]
 pub fn few(commands: &[Command]) -> Few
     ensures { result ≡ filled 4 Close commands.now }
 {

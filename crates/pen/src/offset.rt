@@ -25,6 +25,7 @@ pub struct OffsetSegment {
 }
 
 impl OffsetSegment {
+    #[inline(always)]
     pub fn new(segment: Segment, radius: f32) -> OffsetSegment
         ensures { result ≡ offset_of segment radius }
     {
@@ -55,6 +56,7 @@ fn offset_line(id: SegmentId, line: Line, radius: f32) -> OffsetSegment
 }
 
 // The normal of the first leg that is not short, or of the whole chord where both are.
+#[inline(always)]
 fn leg_normal(leg: Line, next: Line, whole: Line) -> Vector
     ensures { result ≡ leg_normal leg next whole }
 {
@@ -74,6 +76,8 @@ fn bent(n: Vector, m: Vector, radius: f32) -> Vector
     let dot = n.dot(m);
     n.add(m).normalize().mul(radius / sqrt((1.0 + dot) * 0.5))
 }
+
+#[inline(always)]
 
 fn offset_curve(id: SegmentId, c: Curve, radius: f32) -> OffsetSegment
     ensures { result ≡ offset_curve id c radius }

@@ -21,6 +21,7 @@ pub(crate) struct Outliner<'a, S, K> {
 
 impl<'a, S: Sink, K: MathsHost> Outliner<'a, S, K> {
     // One command more, counted.
+    #[inline(always)]
     pub(crate) fn send(&mut self, c: Command) -> Result<(), Refused>
         requires { Fits self.old (sends c ∷ []) }
         ensures { Drew S.meaning S.took K.asked self.old self.new (sends c ∷ []) (is_ok result) }

@@ -27,6 +27,7 @@ pub(crate) fn turn_between(o: OffsetSegment, p: OffsetSegment) -> Turn
 // The three stay apart: a closure that makes the commands would have to carry the clauses of each.
 // The joins take two sides, so that the turn between them is worked out here alone.
 impl<'a, S: Sink, K: MathsHost> Outliner<'a, S, K> {
+    #[inline(always)]
     pub(crate) fn join(&mut self, o: OffsetSegment, p: OffsetSegment) -> Result<(), Refused>
         requires { Fits self.old (join_events (K.functions self.old.host.now) self.old.nib (turn_between o p)) }
         ensures { Drew S.meaning S.took K.asked self.old self.new (join_events (K.functions self.old.host.now) self.old.nib (turn_between o p)) (is_ok result) }
@@ -35,6 +36,8 @@ impl<'a, S: Sink, K: MathsHost> Outliner<'a, S, K> {
         let commands = join(self.nib, turn, self.host);
         self.send_all(commands.as_slice())
     }
+
+    #[inline(always)]
 
     pub(crate) fn split_join(&mut self, o: OffsetSegment, p: OffsetSegment) -> Result<(), Refused>
         requires { Fits self.old (split_events (K.functions self.old.host.now) self.old.nib (turn_between o p)) }

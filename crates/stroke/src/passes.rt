@@ -17,6 +17,7 @@ fn same_command(o: OffsetSegment, p: OffsetSegment) -> bool
 
 impl<'a, S: Sink, K: MathsHost> Outliner<'a, S, K> {
     // A join and the side after it.
+    #[inline(always)]
     pub(crate) fn go_forward(&mut self, o: OffsetSegment, p: OffsetSegment) -> Result<(), Refused>
         requires { Fits self.old (one_forward (K.functions self.old.host.now) self.old.nib o p) }
         ensures { Drew S.meaning S.took K.asked self.old self.new (one_forward (K.functions self.old.host.now) self.old.nib o p) (is_ok result) }
@@ -26,6 +27,7 @@ impl<'a, S: Sink, K: MathsHost> Outliner<'a, S, K> {
     }
 
     // The join between two sides on the way back: pieces of one command get the split join.
+    #[inline(always)]
     fn join_back(&mut self, o: OffsetSegment, p: OffsetSegment) -> Result<(), Refused>
         requires { Fits self.old (back_events (K.functions self.old.host.now) self.old.nib o p) }
         ensures { Drew S.meaning S.took K.asked self.old self.new (back_events (K.functions self.old.host.now) self.old.nib o p) (is_ok result) }
@@ -39,6 +41,7 @@ impl<'a, S: Sink, K: MathsHost> Outliner<'a, S, K> {
 
     // A join and the side after it, on the way back: two lines, which a parameter for the join would
     // lengthen.
+    #[inline(always)]
     pub(crate) fn go_back(&mut self, o: OffsetSegment, p: OffsetSegment) -> Result<(), Refused>
         requires { Fits self.old (one_back (K.functions self.old.host.now) self.old.nib o p) }
         ensures { Drew S.meaning S.took K.asked self.old self.new (one_back (K.functions self.old.host.now) self.old.nib o p) (is_ok result) }
@@ -48,6 +51,7 @@ impl<'a, S: Sink, K: MathsHost> Outliner<'a, S, K> {
     }
 
     // A join and the side after it, on the way there.
+    #[inline(always)]
     pub(crate) fn go_there(
         &mut self,
         o: OffsetSegment,

@@ -11,11 +11,15 @@ use pen::offset::OffsetSegment;
 use segments::segment::Segment;
 use sinks::sink::{Refused, Sink};
 
+#[inline(always)]
+
 pub(crate) fn side(nib: Nib, segment: Segment) -> OffsetSegment
     ensures { result ≡ side nib segment }
 {
     OffsetSegment::new(segment, nib.radius)
 }
+
+#[inline(always)]
 
 pub(crate) fn other_side(nib: Nib, segment: Segment) -> OffsetSegment
     ensures { result ≡ other_side nib segment }

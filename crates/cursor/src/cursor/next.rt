@@ -31,6 +31,7 @@ impl Segments {
 
     // One step: the end to come, the next piece or the next command, whichever is first. None where
     // nothing is to come.
+    #[inline(always)]
     fn step<K: MathsHost>(&mut self, commands: &[Command], host: &mut K) -> Option<Option<Segment>>
         ensures waits { is_some result ≡ waits (seen self.old) (rest self.old commands.now) }
         ensures whole { record { gave = option_flatten result; after = seen self.new; place = self.new.place; host = host.new } ≡ done K.asked self.old.place host.old (step (K.functions host.old) (seen self.old) (rest self.old commands.now)) }
@@ -75,6 +76,7 @@ impl Segments {
 
     /// The next line, curve or end, or none after the last command. The commands are those of the
     /// earlier calls; the host is asked where a curve is cut.
+    #[inline(always)]
     pub fn next<K: MathsHost>(&mut self, commands: &[Command], host: &mut K) -> Option<Segment>
         ensures whole { record { gave = result; after = seen self.new; place = self.new.place; host = host.new } ≡ done K.asked self.old.place host.old (next_of (K.functions host.old) (seen self.old) (rest self.old commands.now)) }
         ensures head { GivesHead (K.functions host.old) (seen self.old) (rest self.old commands.now) result (seen self.new) (rest self.new commands.now) }
