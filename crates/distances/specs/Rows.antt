@@ -1,5 +1,5 @@
 -- Rows as bytes: a function's number, the bits of an argument and the bits of an answer, the highest byte first.
-use Rattle.std.specs.Prelude.{ℕ, zero, suc, ◌+◌, ◌*◌, List, [], ◌∷◌, ◌++◌, slice_index}
+use Rattle.std.specs.Prelude.{ℕ, zero, suc, ◌+◌, ◌*◌, ◌/◌, List, [], ◌∷◌, ◌++◌, length, slice_index}
 use Rattle.maths.specs.declared.table.Row.{Row}
 
 abbrev pub word_at : List ℕ → ℕ → ℕ
@@ -12,3 +12,7 @@ row_at b i = record { function = slice_index b i; argument = word_at b (i + 1); 
 abbrev pub rows_to : List ℕ → ℕ → List Row
 rows_to b zero = []
 rows_to b (suc k) = rows_to b k ++ (row_at b (9 * k) ∷ [])
+
+-- all of them
+unfoldable pub rows_in : List ℕ → List Row
+rows_in b = rows_to b (length b / 9)

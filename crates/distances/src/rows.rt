@@ -19,7 +19,8 @@ fn rows(heap: Global, pieces: &[[u8; 9]]) -> Result<Vec<Row>, AllocError>
     pieces.iter().copied().map(row).collect(heap)
 }
 
-fn row(bytes: [u8; 9]) -> Row
+// The row that nine bytes say.
+pub(crate) fn row(bytes: [u8; 9]) -> Row
     ensures { result ≡ row_at bytes 0 }
 {
     let [function, a, b, c, d, w, x, y, z] = bytes;

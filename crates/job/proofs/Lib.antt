@@ -1,3 +1,4 @@
+pub mod Alikes
 mod Pushes
 mod Spelled
 pub mod Stores

@@ -3,3 +3,4 @@ pub mod Readers
 pub mod Jobs
 pub mod Whole
 pub mod Laws
+pub mod Sayings

@@ -3,5 +3,5 @@ pub mod Asking
 mod Constants
 mod Narrowing
 mod Remainders
-mod Rows
+pub mod Rows
 mod Specials

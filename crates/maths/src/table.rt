@@ -19,8 +19,8 @@ pub struct Row {
 }
 
 impl Row {
-    // All NaN arguments match each other; 0 and -0 do not.
-    fn matches(self, f: Function, x: f32) -> bool
+    /// Whether it is of the function and argument. All NaN arguments match each other; 0 and -0 do not.
+    pub fn matches(self, f: Function, x: f32) -> bool
         ensures { result ≡ matches self f x }
     {
         let argument = f32_from_bits_with_nan(self.argument);
@@ -74,7 +74,8 @@ fn looked_up(rows: &[Row], f: Function, x: f32) -> f32
     answered(f, first_match(rows, f, x))
 }
 
-fn answered(f: Function, found: Option<Row>) -> f32
+/// What a row that was found answers, NaN where none was and where its arc cosine is out of range.
+pub fn answered(f: Function, found: Option<Row>) -> f32
     ensures { result ≡ answered f found }
 {
     found.map_or(not_a_number(), |row| row.lawful_answer(f))

@@ -12,7 +12,7 @@ mod Offsets
 mod Performing
 mod Playing
 mod Rows
-mod Seen
+pub mod Seen
 mod Stretches
 mod Two
 mod WalkRanges

@@ -1,57 +1,107 @@
-ghost use Rattle.std.specs.Prelude.{◌≡◌, length};
+ghost use Rattle.std.specs.Prelude.{◌≡◌, [], length};
 ghost use Rattle.job.specs.Readers.{start};
+ghost use Rattle.job.specs.Sayings.{said};
 ghost use Rattle.job.specs.Whole.{whole};
-ghost use Rattle.maths.specs.Functions.{restricted};
-ghost use Rattle.maths.specs.Series.{series};
-ghost use Rattle.stroke_export.specs.Drawings.{job_drawn};
+ghost use Rattle.tape.specs.ByteSinks.{over, spelling};
+ghost use Rattle.stroke_export.specs.Drawings.{untouched, said_drawn, job_drawn, told_of, bytes_of, Writes};
 
+use crate::answer::{Answer, told};
 use job::reader::JobReader;
 use job::whole::Job;
 use maths::host::MathsHost;
-use maths::series::SeriesHost;
+use path::command::Command;
 use path::refusal::Refusal;
 use segments::segment::Segment;
-use sinks::sink::Sink;
 use storage::lent_storage::LentStorage;
-use stroke::calls::{stroke_into, stroke_with_storage};
+use storage::storage::Storage;
+use stroke::calls::stroke_with_storage;
 use stroke::tally::Tally;
+use tape::byte_sink::ByteSink;
+
+const MOST_COMMANDS: usize = 4096;
+
+const MOST_DASHES: usize = 32;
+
+const MOST_SEGMENTS: usize = 4096;
 
 const MOST_STEPS: u32 = 65_536;
 
-// Reads a job and strokes it by the series host, with a storage of 128 segments.
-pub(crate) fn drawn<S: Sink>(bytes: &[u8], job: &mut Job, sink: &mut S) -> Result<Tally, Refusal>
-    ensures outcome { let o = job_drawn (restricted series) 128 (whole (start bytes.entry) job.old) (S.meaning sink.old) in (result ≡ o.answer) × (S.meaning sink.new ≡ o.sink) }
+// Reads a job and strokes it onto the bytes.
+pub(crate) fn drawn<B: Storage, K: MathsHost>(
+    job: &[u8],
+    bytes: &mut [u8],
+    storage: &mut B,
+    host: &mut K,
+) -> Answer
+    ensures answer { result ≡ told_of (job_drawn (K.functions host.old) (B.capacity storage.old) job.now (length bytes.old)) }
+    ensures bytes { bytes.new ≡ bytes_of (job_drawn (K.functions host.old) (B.capacity storage.old) job.now (length bytes.old)) bytes.old }
 {
-    JobReader::new(bytes).read(job)?;
-    stroke_into(
-        job.commands.as_slice(),
-        job.style,
-        job.dashes.as_slice(),
-        MOST_STEPS,
-        sink,
-        &mut SeriesHost::new(),
-    )
+    let mut commands = [Command::Close; MOST_COMMANDS];
+    let mut dashes = [0.0; MOST_DASHES];
+    let mut read = Job::new(&mut commands, &mut dashes);
+    drawn_by_way_of(job, &mut read, bytes, storage, host)
 }
 
-// Likewise by a host, with a storage over places that are lent.
-pub(crate) fn drawn_with<S: Sink, K: MathsHost>(
+// With a storage of 4,096 segments.
+pub(crate) fn drawn_long<K: MathsHost>(job: &[u8], bytes: &mut [u8], host: &mut K) -> Answer
+    ensures answer { result ≡ told_of (job_drawn (K.functions host.old) 4096 job.now (length bytes.old)) }
+    ensures bytes { bytes.new ≡ bytes_of (job_drawn (K.functions host.old) 4096 job.now (length bytes.old)) bytes.old }
+{
+    let mut places = [Segment::End(false); MOST_SEGMENTS];
+    drawn(job, bytes, &mut LentStorage::new(&mut places), host)
+}
+
+// With a job's lists.
+fn drawn_by_way_of<B: Storage, K: MathsHost>(
+    job: &[u8],
+    read: &mut Job,
+    bytes: &mut [u8],
+    storage: &mut B,
+    host: &mut K,
+) -> Answer
+    ensures answer { result ≡ told_of (said_drawn (K.functions host.old) (B.capacity storage.old) (said (whole (start job.entry) read.old)) (untouched (length bytes.old))) }
+    ensures bytes { bytes.new ≡ bytes_of (said_drawn (K.functions host.old) (B.capacity storage.old) (said (whole (start job.entry) read.old)) (untouched (length bytes.old))) bytes.old }
+{
+    let mut sink = ByteSink::new(bytes);
+    let drawn = drawn_fresh(job, read, &mut sink, storage, host);
+    told(sink.used(), drawn)
+}
+
+// The sink took nothing yet, and holds the commands' records in the end.
+fn drawn_fresh<B: Storage, K: MathsHost>(
     bytes: &[u8],
     job: &mut Job,
-    segments: &mut [Segment],
-    sink: &mut S,
+    sink: &mut ByteSink,
+    storage: &mut B,
     host: &mut K,
 ) -> Result<Tally, Refusal>
-    ensures outcome { let o = job_drawn (K.functions host.old) (length segments.old) (whole (start bytes.entry) job.old) (S.meaning sink.old) in (result ≡ o.answer) × (S.meaning sink.new ≡ o.sink) }
+    requires { sink.old ≡ over sink.old.bytes [] }
+    ensures answer { result ≡ (said_drawn (K.functions host.old) (B.capacity storage.old) (said (whole (start bytes.entry) job.old)) (untouched (length sink.old.bytes.now))).answer }
+    ensures sink { sink.new ≡ over sink.old.bytes (said_drawn (K.functions host.old) (B.capacity storage.old) (said (whole (start bytes.entry) job.old)) (untouched (length sink.old.bytes.now))).sink.list }
+{
+    read_and_drawn(bytes, job, sink, storage, host)
+}
+
+// Reads a job and strokes it onto a sink.
+
+fn read_and_drawn<B: Storage, K: MathsHost>(
+    bytes: &[u8],
+    job: &mut Job,
+    sink: &mut ByteSink,
+    storage: &mut B,
+    host: &mut K,
+) -> Result<Tally, Refusal>
+    ensures outcome { let o = said_drawn (K.functions host.old) (B.capacity storage.old) (said (whole (start bytes.entry) job.old)) (spelling sink.old) in (result ≡ o.answer) × (spelling sink.new ≡ o.sink) }
+    ensures writes { Writes sink.old sink.new }
 {
     JobReader::new(bytes).read(job)?;
-    let mut storage = LentStorage::new(segments);
     stroke_with_storage(
         job.commands.as_slice(),
         job.style,
         job.dashes.as_slice(),
         MOST_STEPS,
         sink,
-        &mut storage,
+        storage,
         host,
     )
 }

@@ -1,3 +1,5 @@
+pub mod ByteSinkLaws
+pub mod ByteSinks
 pub mod Decoding
 pub mod ReadBack
 pub mod TapeLaws

@@ -17,7 +17,7 @@ priced (CurveTo a b p) = refl
 priced (QuadTo a p) = refl
 priced Close = refl
 
-costs : (c : Command) → 1 ≤ price (kind c)
+pub costs : (c : Command) → 1 ≤ price (kind c)
 costs (MoveTo p) = omega arith
 costs (LineTo p) = omega arith
 costs (CurveTo a b p) = omega arith

@@ -1,0 +1,55 @@
+-- A stroke writes nothing but records.
+use Rattle.std.proofs.Common.{◌≡◌, ℕ, List, [], ◌∷◌, ◌++◌, Result, length, ◌-◌, refl, ap, ◌∙◌, sym, arith}
+use denote.Ref.{MutBor}
+use lib.Ieee.{Float}
+use Rattle.maths.specs.declared.host.Function.{Function}
+use Rattle.maths.specs.Functions.{Functions}
+use Rattle.path.specs.declared.command.Command.{Command}
+use Rattle.path.specs.declared.refusal.Refusal.{Refusal}
+use Rattle.path.specs.declared.style.Stroke.{Stroke}
+use Rattle.segments.specs.declared.segment.Segment.{Segment}
+use Rattle.stroke.specs.declared.tally.Tally.{Tally}
+use Rattle.stroke.specs.Outcomes.{Outcome, stroked}
+use Rattle.stroke.proofs.Seen.{seen_stroked}
+use Rattle.tape.specs.ByteSinks.{over, spelling, grown}
+use Rattle.tape.specs.Tapes.{price}
+use Rattle.tape.specs.declared.byte_sink.ByteSink.{ByteSink}
+use Rattle.tape.proofs.Overs.{over_grows}
+use Rattle.std.specs.Borrow.{Bor}
+use Rattle.job.specs.declared.whole.Job.{Job}
+use Rattle.job.specs.Jobs.{empty_job}
+use Rattle.job.specs.Readers.{start}
+use Rattle.job.specs.Sayings.{Said, said, said_by}
+use Rattle.job.specs.Whole.{whole}
+use Rattle.job.proofs.Alikes.{says}
+use Rattle.stroke_export.specs.Drawings.{Drawn, Writes, said_drawn, untouched}
+
+pub stroke_writes : {B K : Type 0} (held : B → List Segment) (capacity : B → ℕ) (cleared : B → B) (pushed : B → Segment → B) (asked : K → Function → Float → K) (budget : ℕ)
+    (F : Functions) (cs : List Command) (style : Stroke) (dashes : List Float) (s : ByteSink) (b : B) (k : K) {r : Result Tally Refusal} {s' : ByteSink} {b' : B} {k' : K}
+    → ◌≡◌ {A = Outcome ByteSink B K} (record { answer = r; sink = s'; storage = b'; host = k' }) (stroked spelling grown held capacity cleared pushed asked budget F cs style dashes s b k) → Writes s s'
+stroke_writes held capacity cleared pushed asked budget F cs style dashes s b k e bytes is =
+    let plainly = stroked (λ ds. spelling (over bytes ds)) (λ ds d. ds ++ (d ∷ [])) held capacity cleared pushed asked budget F cs style dashes [] b k in
+    let same = seen_stroked (λ ds. spelling (over bytes ds)) (λ ds d. ds ++ (d ∷ [])) held capacity cleared pushed asked spelling grown held capacity cleared pushed asked (over bytes) (λ c. c) (λ c. c)
+    (record { means = λ ds. refl; takes_alike = λ ds d fits. over_grows bytes ds d; holds = λ c. refl; capable = λ c. refl; clears_alike = λ c. refl; pushes_alike = λ c x fits. refl; asks_alike = λ c q x. refl })
+    budget F cs style dashes [] b k in
+    (plainly.sink, ap (λ (o : Outcome ByteSink _ _). o.sink) (e ∙ ap (λ t. stroked spelling grown held capacity cleared pushed asked budget F cs style dashes t b k) is ∙ sym same))
+
+-- as records of the commands that it drew
+module _ (F : Functions) (segments : ℕ) (j : Said) (s s' : ByteSink) (fresh : s ≡ over s.bytes []) where
+  means_untouched : spelling s ≡ untouched (length s.bytes.now)
+  means_untouched =
+      let units : length s.bytes.now - 0 ≡ length s.bytes.now = omega arith in
+      ap spelling fresh ∙ (λ i. record { list = []; units = units i; price = price; map = λ c. c })
+
+  pub drawn_untouched : said_drawn F segments j (spelling s) ≡ said_drawn F segments j (untouched (length s.bytes.now))
+  drawn_untouched = ap (said_drawn F segments j) means_untouched
+
+  pub all_written : spelling s' ≡ (said_drawn F segments j (spelling s)).sink → Writes s s' → s' ≡ over s.bytes (said_drawn F segments j (untouched (length s.bytes.now))).sink.list
+  all_written means writes =
+      let w = writes s.bytes fresh in
+      w.1 ∙ ap (over s.bytes) (sym (ap (λ (t : ByteSink). t.taken.commands) w.1) ∙ ap (λ m. m.list) means ∙ ap (λ (d : Drawn). d.sink.list) drawn_untouched)
+
+-- a job in lists of 4,096 and 32 places
+pub says_by : (job : Bor (List ℕ)) (commands : MutBor (List Command)) (dashes : MutBor (List Float)) {j : Job} → j ≡ empty_job commands dashes → length commands.now ≡ 4096 → length dashes.now ≡ 32
+    → said (whole (start job) j) ≡ said_by 4096 32 job.now
+says_by job commands dashes is many few = ap (λ k. said (whole (start job) k)) is ∙ says job commands dashes ∙ (λ i. said_by (many i) (few i) job.now)
