@@ -6,17 +6,23 @@ ghost use Rattle.tape.specs.ByteSinks.{over, spelling};
 ghost use Rattle.stroke_export.specs.Drawings.{untouched, said_drawn, job_drawn, told_of, bytes_of, Writes};
 
 use crate::answer::{Answer, told};
+use curves::line::Line;
 use job::reader::JobReader;
 use job::whole::Job;
 use maths::host::MathsHost;
 use path::command::Command;
+use path::geometry::Point;
 use path::refusal::Refusal;
+use segments::mark::SegmentId;
 use segments::segment::Segment;
 use storage::lent_storage::LentStorage;
 use storage::storage::Storage;
 use stroke::calls::stroke_with_storage;
 use stroke::tally::Tally;
 use tape::byte_sink::ByteSink;
+
+// What the places of a list hold at first: all of it zeros, which a single memset writes.
+const ORIGIN: Point = Point { x: 0.0, y: 0.0 };
 
 const MOST_COMMANDS: usize = 4096;
 
@@ -36,7 +42,7 @@ pub(crate) fn drawn<B: Storage, K: MathsHost>(
     ensures answer { result ≡ told_of (job_drawn (K.functions host.old) (B.capacity storage.old) job.now (length bytes.old)) }
     ensures bytes { bytes.new ≡ bytes_of (job_drawn (K.functions host.old) (B.capacity storage.old) job.now (length bytes.old)) bytes.old }
 {
-    let mut commands = [Command::Close; MOST_COMMANDS];
+    let mut commands = [Command::MoveTo(ORIGIN); MOST_COMMANDS];
     let mut dashes = [0.0; MOST_DASHES];
     let mut read = Job::new(&mut commands, &mut dashes);
     drawn_by_way_of(job, &mut read, bytes, storage, host)
@@ -47,7 +53,7 @@ pub(crate) fn drawn_long<K: MathsHost>(job: &[u8], bytes: &mut [u8], host: &mut 
     ensures answer { result ≡ told_of (job_drawn (K.functions host.old) 4096 job.now (length bytes.old)) }
     ensures bytes { bytes.new ≡ bytes_of (job_drawn (K.functions host.old) 4096 job.now (length bytes.old)) bytes.old }
 {
-    let mut places = [Segment::End(false); MOST_SEGMENTS];
+    let mut places = [Segment::Line(SegmentId::first(), Line::new(ORIGIN, ORIGIN)); MOST_SEGMENTS];
     drawn(job, bytes, &mut LentStorage::new(&mut places), host)
 }
 
