@@ -17,15 +17,12 @@ struct Answer {
 }
 
 extern "C" {
-    fn stroke_job_stored(
-        job: *const u8,
-        job_length: usize,
-        segments: usize,
-        bytes: *mut u8,
-        bytes_length: usize,
-        answer: *mut Answer,
-    ) -> bool;
+    fn stroke_job(job: *const u8, job_length: usize, bytes: *mut u8, bytes_length: usize, answer: *mut Answer);
+
+    fn stroke_job_long(job: *const u8, job_length: usize, bytes: *mut u8, bytes_length: usize, answer: *mut Answer);
 }
+
+type Call = unsafe extern "C" fn(*const u8, usize, *mut u8, usize, *mut Answer);
 
 const ROUNDS: usize = 41;
 const ROUND: f64 = 0.002;
@@ -34,8 +31,8 @@ struct Case {
     name: String,
     style: Stroke<'static>,
     path: Vec<Command>,
-    /// How many segments our storage has room for.
-    segments: usize,
+    /// Ours: with room for 128 segments, or for 4,096.
+    call: Call,
 }
 
 struct Chance(u64);
@@ -135,12 +132,9 @@ fn record(bytes: &mut Vec<u8>, command: &Command) {
     }
 }
 
-fn ours(job: &[u8], segments: usize, bytes: &mut [u8]) -> Answer {
+fn ours(job: &[u8], call: Call, bytes: &mut [u8]) -> Answer {
     let mut answer = Answer::default();
-    let whole = unsafe {
-        stroke_job_stored(job.as_ptr(), job.len(), segments, bytes.as_mut_ptr(), bytes.len(), &mut answer)
-    };
-    assert!(whole, "no memory");
+    unsafe { call(job.as_ptr(), job.len(), bytes.as_mut_ptr(), bytes.len(), &mut answer) };
     answer
 }
 
@@ -203,16 +197,16 @@ fn measure(case: &Case) {
     let mut bytes = vec![0u8; 4 << 20];
     let mut out = Vec::new();
     zenos(case, &mut out);
-    let answer = ours(&job, case.segments, &mut bytes);
+    let answer = ours(&job, case.call, &mut bytes);
     let apart = apart(&bytes[..answer.length as usize], &out);
-    let ours_turns = turns(|| { black_box(ours(black_box(&job), case.segments, &mut bytes)); });
+    let ours_turns = turns(|| { black_box(ours(black_box(&job), case.call, &mut bytes)); });
     let zenos_turns = turns(|| zenos(black_box(case), black_box(&mut out)));
-    let empty_turns = turns(|| { black_box(ours(black_box(&[]), case.segments, &mut bytes)); });
+    let empty_turns = turns(|| { black_box(ours(black_box(&[]), case.call, &mut bytes)); });
     let (mut a, mut b, mut c) = (Vec::new(), Vec::new(), Vec::new());
     for _ in 0..ROUNDS {
-        a.push(once(ours_turns, || { black_box(ours(black_box(&job), case.segments, &mut bytes)); }));
+        a.push(once(ours_turns, || { black_box(ours(black_box(&job), case.call, &mut bytes)); }));
         b.push(once(zenos_turns, || zenos(black_box(case), black_box(&mut out))));
-        c.push(once(empty_turns, || { black_box(ours(black_box(&[]), case.segments, &mut bytes)); }));
+        c.push(once(empty_turns, || { black_box(ours(black_box(&[]), case.call, &mut bytes)); }));
     }
     let (a, b, c) = (median(a), median(b), median(c));
     let apart = apart.map_or("other commands".to_string(), |x| format!("{x:.1e}"));
@@ -231,7 +225,7 @@ fn alone(case: &Case, turns: usize) {
     let job = job(case);
     let mut bytes = vec![0u8; 4 << 20];
     for _ in 0..turns {
-        black_box(ours(black_box(&job), case.segments, &mut bytes));
+        black_box(ours(black_box(&job), case.call, &mut bytes));
     }
 }
 
@@ -239,10 +233,10 @@ fn main() {
     let round = style(2.0, Join::Round, Cap::Round, &[], 0.0);
     let dashed = style(2.0, Join::Round, Cap::Round, &[4.0, 4.0], 1.0);
     let miter = style(2.0, Join::Miter, Cap::Butt, &[], 0.0);
-    let case = |name: String, style, path, segments| Case { name, style, path, segments };
-    let a = case("a signature, 300 points, round".into(), round, signature(300), 128);
-    let b = case("b glyph, 30 cubics, miter".into(), miter, glyph(30), 128);
-    let c = case("c signature, dashed 4 4 by 1".into(), dashed, signature(300), 128);
+    let case = |name: String, style, path, call: Call| Case { name, style, path, call };
+    let a = case("a signature, 300 points, round".into(), round, signature(300), stroke_job);
+    let b = case("b glyph, 30 cubics, miter".into(), miter, glyph(30), stroke_job);
+    let c = case("c signature, dashed 4 4 by 1".into(), dashed, signature(300), stroke_job);
     let arguments: Vec<String> = std::env::args().skip(1).collect();
     if let [which, turns] = &arguments[..] {
         let case = [&a, &b, &c].into_iter().find(|case| case.name.starts_with(which.as_str()));
@@ -256,12 +250,12 @@ fn main() {
     measure(&b);
     measure(&c);
     for n in [10, 30, 100, 300, 1000, 4000, 4096] {
-        measure(&case(format!("  {n} points, round"), round, signature(n), 128));
+        measure(&case(format!("  {n} points, round"), round, signature(n), stroke_job));
     }
     for n in [10, 30, 100, 300, 1000, 4000] {
-        measure(&case(format!("  {n} points, dashed"), dashed, signature(n), 128));
+        measure(&case(format!("  {n} points, dashed"), dashed, signature(n), stroke_job));
     }
-    for n in [10, 100, 1000, 4000] {
-        measure(&case(format!("  {n} cubics, miter"), miter, glyph(n), 6 * n + 16));
+    for n in [10, 100, 1000] {
+        measure(&case(format!("  {n} cubics, miter"), miter, glyph(n), stroke_job_long));
     }
 }

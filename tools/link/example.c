@@ -41,9 +41,9 @@ int main(void) {
     tell("onto 20 bytes", bytes, answer);
     stroke_job(unknown, sizeof unknown - 1, bytes, sizeof bytes, &answer);
     tell("a letter that is none", bytes, answer);
-    if (stroke_job_stored(job, sizeof job - 1, 1, bytes, sizeof bytes, &answer))
-        tell("with room for one segment", bytes, answer);
-    if (stroke_job_by_rows(job, 0, job, sizeof job - 1, 0, bytes, sizeof bytes, &answer))
-        tell("with room for none, and no rows", bytes, answer);
+    stroke_job_long(job, sizeof job - 1, bytes, sizeof bytes, &answer);
+    tell("with room for 4096 segments", bytes, answer);
+    stroke_job_by_rows(job, 0, job, sizeof job - 1, bytes, sizeof bytes, &answer);
+    tell("by no rows: nothing is asked of them here", bytes, answer);
     return 0;
 }

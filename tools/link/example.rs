@@ -7,6 +7,6 @@ fn main() {
     println!("{:?}", stroke::stroke(job, &mut bytes));
     println!("{:?}", stroke::stroke(job, &mut bytes[..20]));
     println!("{:?}", stroke::stroke(b"W\x40\0\0\0?", &mut bytes));
-    println!("{:?}", stroke::stroke_stored(job, 1, &mut bytes));
-    println!("{:?}", stroke::stroke_by_rows(&[], job, 0, &mut bytes));
+    println!("{:?}", stroke::stroke_long(job, &mut bytes));
+    println!("{:?}", stroke::stroke_by_rows(&[], job, &mut bytes));
 }

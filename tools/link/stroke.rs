@@ -14,29 +14,31 @@ struct Answer {
 unsafe extern "C" {
     fn stroke_job(job: *const u8, job_length: usize, bytes: *mut u8, bytes_length: usize, answer: *mut Answer);
 
-    fn stroke_job_stored(
-        job: *const u8,
-        job_length: usize,
-        segments: usize,
-        bytes: *mut u8,
-        bytes_length: usize,
-        answer: *mut Answer,
-    ) -> bool;
+    fn stroke_job_long(job: *const u8, job_length: usize, bytes: *mut u8, bytes_length: usize, answer: *mut Answer);
 
     fn stroke_job_by_rows(
         rows: *const u8,
         rows_length: usize,
         job: *const u8,
         job_length: usize,
-        segments: usize,
         bytes: *mut u8,
         bytes_length: usize,
         answer: *mut Answer,
-    ) -> bool;
+    );
+
+    fn stroke_job_long_by_rows(
+        rows: *const u8,
+        rows_length: usize,
+        job: *const u8,
+        job_length: usize,
+        bytes: *mut u8,
+        bytes_length: usize,
+        answer: *mut Answer,
+    );
 }
 
 /// What was drawn: the commands' bytes, and the tally or the refusal.
-#[derive(Clone, Copy, Debug, PartialEq)]
+#[derive(Clone, Copy, Debug, PartialEq, Eq)]
 pub struct Stroked<'a> {
     pub bytes: &'a [u8],
     pub sent: u64,
@@ -54,10 +56,6 @@ pub struct Refusal {
     pub place: u64,
 }
 
-/// There is no memory for the storage or the rows.
-#[derive(Clone, Copy, Debug, PartialEq, Eq)]
-pub struct NoMemory;
-
 fn stroked(bytes: &[u8], answer: Answer) -> Stroked<'_> {
     let ended = match answer.refusal {
         0 => Ok(Steps(answer.steps)),
@@ -74,36 +72,46 @@ pub fn stroke<'a>(job: &[u8], bytes: &'a mut [u8]) -> Stroked<'a> {
     stroked(bytes, answer)
 }
 
-/// With the library's own maths and a storage of so many segments.
-pub fn stroke_stored<'a>(job: &[u8], segments: usize, bytes: &'a mut [u8]) -> Result<Stroked<'a>, NoMemory> {
+/// With the library's own maths and a storage of 4,096 segments.
+pub fn stroke_long<'a>(job: &[u8], bytes: &'a mut [u8]) -> Stroked<'a> {
     let mut answer = Answer::default();
     // SAFETY: as above.
-    let whole = unsafe {
-        stroke_job_stored(job.as_ptr(), job.len(), segments, bytes.as_mut_ptr(), bytes.len(), &mut answer)
-    };
-    if whole { Ok(stroked(bytes, answer)) } else { Err(NoMemory) }
+    unsafe { stroke_job_long(job.as_ptr(), job.len(), bytes.as_mut_ptr(), bytes.len(), &mut answer) };
+    stroked(bytes, answer)
 }
 
-/// By rows of nine bytes as the maths, and a storage of so many segments.
-pub fn stroke_by_rows<'a>(
-    rows: &[u8],
-    job: &[u8],
-    segments: usize,
-    bytes: &'a mut [u8],
-) -> Result<Stroked<'a>, NoMemory> {
+/// By rows of nine bytes as the maths, with a storage of 128 segments.
+pub fn stroke_by_rows<'a>(rows: &[u8], job: &[u8], bytes: &'a mut [u8]) -> Stroked<'a> {
     let mut answer = Answer::default();
     // SAFETY: as above.
-    let whole = unsafe {
+    unsafe {
         stroke_job_by_rows(
             rows.as_ptr(),
             rows.len(),
             job.as_ptr(),
             job.len(),
-            segments,
             bytes.as_mut_ptr(),
             bytes.len(),
             &mut answer,
         )
     };
-    if whole { Ok(stroked(bytes, answer)) } else { Err(NoMemory) }
+    stroked(bytes, answer)
+}
+
+/// By rows of nine bytes as the maths, with a storage of 4,096 segments.
+pub fn stroke_long_by_rows<'a>(rows: &[u8], job: &[u8], bytes: &'a mut [u8]) -> Stroked<'a> {
+    let mut answer = Answer::default();
+    // SAFETY: as above.
+    unsafe {
+        stroke_job_long_by_rows(
+            rows.as_ptr(),
+            rows.len(),
+            job.as_ptr(),
+            job.len(),
+            bytes.as_mut_ptr(),
+            bytes.len(),
+            &mut answer,
+        )
+    };
+    stroked(bytes, answer)
 }

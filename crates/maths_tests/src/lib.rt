@@ -2,6 +2,8 @@
 #![tactic(auto)]
 
 #[cfg(test)]
+mod byte_table;
+#[cfg(test)]
 mod series;
 #[cfg(test)]
 mod table;

@@ -47,9 +47,9 @@ impl<'a> Sink for ByteSink<'a> {
     ghost grows = { spelling_grows };
 
     fn send(&mut self, c: Command) -> Result<(), Refused> {
-        let size = write_command(self.bytes, self.used, c).ok_or(Refused)?;
-        self.used += size;
-        self.taken = self.taken.and(&c);
+        let ByteSink { bytes, used, taken } = self;
+        *used += write_command(bytes, *used, c).ok_or(Refused)?;
+        *taken = taken.and(&c);
         Ok(())
     }
 }

@@ -10,6 +10,7 @@ use path::style::{Cap, Join, Stroke};
 use sinks::record_list::RecordList;
 use sinks::sink::{ReadableSink, Refused, Sink};
 use stroke::calls::stroke_into;
+use tape::byte_sink::ByteSink;
 use tape::tape::Tape;
 
 const BY: Vector = Vector { x: 10.0, y: -1.0 };
@@ -86,6 +87,18 @@ fn records(rt: HostRuntime) {
     assert_eq!(rt; tape.get(2), None);
     assert_eq!(rt; tape.get(usize::MAX), None);
     assert!(rt; same(tape.finish(), b"L\x3f\x80\x00\x00\xc0\x20\x00\x00Z"));
+    assert_eq!(rt; bytes, *b"L\x3f\x80\x00\x00\xc0\x20\x00\x00Z\x07\x07");
+}
+
+// The same records by a byte sink, which is not ended.
+#[test]
+fn byte_sinks(rt: HostRuntime) {
+    let mut bytes = [7; 12];
+    let mut sink = ByteSink::new(&mut bytes);
+    assert_eq!(rt; sink.line_to(at(1.0, -2.5)), Ok(()));
+    assert_eq!(rt; sink.send(quad()), Err(Refused));
+    assert_eq!(rt; sink.close(), Ok(()));
+    assert_eq!(rt; sink.used(), 10);
     assert_eq!(rt; bytes, *b"L\x3f\x80\x00\x00\xc0\x20\x00\x00Z\x07\x07");
 }
 
