@@ -45,7 +45,7 @@ pub(crate) fn drawn<B: Storage, K: MathsHost>(
     let mut commands = [Command::MoveTo(ORIGIN); MOST_COMMANDS];
     let mut dashes = [0.0; MOST_DASHES];
     let mut read = Job::new(&mut commands, &mut dashes);
-    drawn_by_way_of(job, &mut read, bytes, storage, host)
+    drawn_in_lists(job, &mut read, bytes, storage, host)
 }
 
 // With a storage of 4,096 segments.
@@ -57,8 +57,8 @@ pub(crate) fn drawn_long<K: MathsHost>(job: &[u8], bytes: &mut [u8], host: &mut 
     drawn(job, bytes, &mut LentStorage::new(&mut places), host)
 }
 
-// With a job's lists.
-fn drawn_by_way_of<B: Storage, K: MathsHost>(
+// With lists that are lent.
+fn drawn_in_lists<B: Storage, K: MathsHost>(
     job: &[u8],
     read: &mut Job,
     bytes: &mut [u8],
@@ -69,12 +69,12 @@ fn drawn_by_way_of<B: Storage, K: MathsHost>(
     ensures bytes { bytes.new ≡ bytes_of (said_drawn (K.functions host.old) (B.capacity storage.old) (said (whole (start job.entry) read.old)) (untouched (length bytes.old))) bytes.old }
 {
     let mut sink = ByteSink::new(bytes);
-    let drawn = drawn_fresh(job, read, &mut sink, storage, host);
+    let drawn = drawn_as_records(job, read, &mut sink, storage, host);
     told(sink.used(), drawn)
 }
 
 // The sink took nothing yet, and holds the commands' records in the end.
-fn drawn_fresh<B: Storage, K: MathsHost>(
+fn drawn_as_records<B: Storage, K: MathsHost>(
     bytes: &[u8],
     job: &mut Job,
     sink: &mut ByteSink,
@@ -89,7 +89,6 @@ fn drawn_fresh<B: Storage, K: MathsHost>(
 }
 
 // Reads a job and strokes it onto a sink.
-
 fn read_and_drawn<B: Storage, K: MathsHost>(
     bytes: &[u8],
     job: &mut Job,

@@ -9,11 +9,11 @@ use Rattle.stroke_export.proofs.drawing.drawn.Goals as goal
 pub returns-clause-answer : goal.returns-clause-answer
 returns-clause-answer g c =
     let read : said (whole (start c.args.job) c.new-read.result) ≡ said_by 4096 32 c.args.job.now = says_by c.args.job _ _ c.new-read.ensures (search rules) (search rules) in
-    c.drawn_by_way_of.ensures.answer
+    c.drawn_in_lists.ensures.answer
     ∙ ap (λ s. told_of (said_drawn (g.K.MathsHost.functions c.args.host.now) (g.B.Storage.capacity c.args.storage.now) s (untouched (length c.args.bytes.now)))) read
 
 pub returns-clause-bytes : goal.returns-clause-bytes
 returns-clause-bytes g c =
     let read : said (whole (start c.args.job) c.new-read.result) ≡ said_by 4096 32 c.args.job.now = says_by c.args.job _ _ c.new-read.ensures (search rules) (search rules) in
-    c.drawn_by_way_of.ensures.bytes
+    c.drawn_in_lists.ensures.bytes
     ∙ ap (λ s. bytes_of (said_drawn (g.K.MathsHost.functions c.args.host.now) (g.B.Storage.capacity c.args.storage.now) s (untouched (length c.args.bytes.now))) c.args.bytes.now) read

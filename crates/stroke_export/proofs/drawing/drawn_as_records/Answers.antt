@@ -4,7 +4,7 @@ use Rattle.job.specs.Sayings.{said}
 use Rattle.job.specs.Whole.{whole}
 use Rattle.stroke_export.specs.Drawings.{Drawn}
 use Rattle.stroke_export.proofs.Writings.{drawn_untouched, all_written}
-use Rattle.stroke_export.proofs.drawing.drawn_fresh.Goals as goal
+use Rattle.stroke_export.proofs.drawing.drawn_as_records.Goals as goal
 
 pub returns-clause-answer : goal.returns-clause-answer
 returns-clause-answer g c =
