@@ -59,5 +59,9 @@ fn first_match(bytes: &[u8], f: Function, x: f32) -> Option<Row>
 fn first_of(pieces: &[[u8; 9]], f: Function, x: f32) -> Option<Row>
     ensures { result ≡ find (λ r. matches r f x) (map (λ p. row_at p 0) pieces.now) }
 {
-    pieces.iter().copied().map(row).find(|row| row.matches(f, x))
+    pieces
+        .iter()
+        .copied()
+        .map(row)
+        .find(|row| row.matches(f, x))
 }

@@ -1,5 +1,5 @@
 -- Of a list's places only how many there are matters to what is read into them, and nothing of where the bytes lie.
-use Rattle.std.proofs.Common.{◌≡◌, ℕ, zero, suc, ◌+◌, ◌<◌, ◌&&◌, Bool, true, false, List, [], ◌∷◌, ◌++◌, length, drop, Some, None, Ok, Err, Option, Result, nat_lt, sym, refl, ap, ap₂, ◌∙◌, subst, length-set, take}
+use Rattle.std.proofs.Common.{◌≡◌, ℕ, zero, suc, ◌+◌, ◌&&◌, Bool, true, false, List, [], ◌∷◌, ◌++◌, length, drop, Some, None, Ok, Err, Option, Result, nat_lt, sym, refl, ap, ap₂, ◌∙◌, subst, length-set}
 use Rattle.std.proofs.lemmas.List.{take_more_set, length-replicate}
 use Rattle.std.proofs.lemmas.Bool.{and_parts, ltb-true}
 use Rattle.std.specs.Borrow.{Bor}
@@ -18,7 +18,7 @@ use Rattle.job.specs.declared.reader.JobReader.{JobReader}
 use Rattle.job.specs.declared.whole.Job.{Job}
 use Rattle.job.specs.Readers.{start, left, moved, refusal}
 use Rattle.job.specs.Jobs.{empty_job, styled, commands_of, dashes_of, has_place, takes, pushed_all, takes_item, with_item}
-use Rattle.job.specs.Sayings.{Said, said, places, said_by}
+use Rattle.job.specs.Sayings.{said, places, said_by}
 use Rattle.job.specs.Whole.{Outcome, step, step_by, store_by, then, reading, whole}
 
 -- ---- lists
@@ -39,8 +39,8 @@ module _ {X : Type 0} (most : ℕ) where
     many = length-set l.places.now l.count x ∙ a.many ∙ sym (length-set k.places.now k.count x);
     count = ap (λ n. n + 1) a.count;
     held =
-    take_more_set l.places.now l.count x (ltb-true l.count (length l.places.now) fits) ∙ ap (λ ys. ys ++ (x ∷ [])) a.held
-    ∙ sym (take_more_set k.places.now k.count x (ltb-true k.count (length k.places.now) fits'));
+        take_more_set l.places.now l.count x (ltb-true l.count (length l.places.now) fits) ∙ ap (λ ys. ys ++ (x ∷ [])) a.held
+        ∙ sym (take_more_set k.places.now k.count x (ltb-true k.count (length k.places.now) fits'));
   }
 
   same_place : (l k : Lent X) → AlikeLists l k → has_place most l ≡ has_place most k

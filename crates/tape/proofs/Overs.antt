@@ -1,5 +1,5 @@
 -- A byte sink that took commands holds their records, and then what its bytes held.
-use Rattle.std.proofs.Common.{◌≡◌, ℕ, ◌+◌, T, List, [], ◌∷◌, ◌++◌, length, take, drop, sym, refl, ap, ◌∙◌, length-append}
+use Rattle.std.proofs.Common.{◌≡◌, ℕ, ◌+◌, List, [], ◌∷◌, ◌++◌, length, drop, sym, refl, ap, ◌∙◌, length-append}
 use Rattle.std.proofs.Math.Seq.{take-append_seam}
 use Rattle.std.proofs.lemmas.List.{drop_at, drop-drop}
 use denote.Ref.{MutBor, at_last}
@@ -8,7 +8,6 @@ use Rattle.codec.specs.Writing.{written, record_of}
 use Rattle.tape.specs.Decoding.{records}
 use Rattle.tape.specs.ByteSinks.{overwritten, over, grown}
 use Rattle.tape.specs.TapeLaws.{records_more}
-use Rattle.tape.specs.declared.byte_sink.ByteSink.{ByteSink}
 
 used_more : (cs : List Command) (c : Command) → length (records (cs ++ (c ∷ []))) ≡ length (records cs) + length (record_of c)
 used_more cs c = ap length (records_more cs c) ∙ length-append (records cs) (record_of c)

@@ -1,5 +1,5 @@
 -- A byte sink with one command more.
-use Rattle.std.specs.Prelude.{◌≡◌, ◌+◌, ◌-◌, ◌≤◌, T, [], ◌∷◌, ◌++◌, length, refl}
+use Rattle.std.specs.Prelude.{◌≡◌, ◌+◌, ◌-◌, ◌≤◌, T, [], ◌∷◌, ◌++◌, length}
 use Rattle.std.proofs.Common.{leb→le, arith}
 use Rattle.path.specs.declared.command.Command.{Command}
 use Rattle.path.specs.Kinds.{kind}
