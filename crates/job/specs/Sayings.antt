@@ -1,5 +1,5 @@
 -- What a job's bytes say, read into lists of so many places.
-use Rattle.std.specs.Prelude.{ℕ, List, Result, replicate, Float}
+use Rattle.std.specs.Prelude.{◌≡◌, ℕ, suc, ◌<◌, List, length, Result, replicate, nat_lt, Float}
 use Rattle.std.specs.Float.{float_zero}
 use denote.Ref.{MutBor}
 use Rattle.lent.specs.Lists.{items}
@@ -27,3 +27,7 @@ places n x = record { ref_ptr = (0, 0); ghost_name = 0; now = replicate n x }
 
 unfoldable pub said_by : ℕ → ℕ → List ℕ → Said
 said_by commands dashes bytes = said (whole (start (record { ref_ptr = (0, 0); now = bytes })) (empty_job (places commands Close) (places dashes float_zero)))
+
+-- so many places take as many elements as so many others, of those that the bytes can give: each takes a byte at least
+abbrev pub AsMany : List ℕ → ℕ → ℕ → Type 0
+AsMany bytes m n = (i : ℕ) → i < suc (length bytes) → nat_lt i m ≡ nat_lt i n

@@ -19,9 +19,9 @@ use Rattle.std.specs.Borrow.{Bor}
 use Rattle.job.specs.declared.whole.Job.{Job}
 use Rattle.job.specs.Jobs.{empty_job}
 use Rattle.job.specs.Readers.{start}
-use Rattle.job.specs.Sayings.{Said, said, said_by}
+use Rattle.job.specs.Sayings.{Said, said, said_by, AsMany}
 use Rattle.job.specs.Whole.{whole}
-use Rattle.job.proofs.Alikes.{says}
+use Rattle.job.proofs.Alikes.{says_in, same_many}
 use Rattle.stroke_export.specs.Drawings.{Drawn, Writes, said_drawn, untouched}
 
 pub stroke_writes : {B K : Type 0} (held : B → List Segment) (capacity : B → ℕ) (cleared : B → B) (pushed : B → Segment → B) (asked : K → Function → Float → K) (budget : ℕ)
@@ -50,6 +50,6 @@ module _ (F : Functions) (segments : ℕ) (j : Said) (s s' : ByteSink) (fresh : 
       w.1 ∙ ap (over s.bytes) (sym (ap (λ (t : ByteSink). t.taken.commands) w.1) ∙ ap (λ m. m.list) means ∙ ap (λ (d : Drawn). d.sink.list) drawn_untouched)
 
 -- a job in lists of 4,096 and 32 places
-pub says_by : (job : Bor (List ℕ)) (commands : MutBor (List Command)) (dashes : MutBor (List Float)) {j : Job} → j ≡ empty_job commands dashes → length commands.now ≡ 4096 → length dashes.now ≡ 32
+pub says_by : (job : Bor (List ℕ)) (commands : MutBor (List Command)) (dashes : MutBor (List Float)) {j : Job} → j ≡ empty_job commands dashes → AsMany job.now (length commands.now) 4096 → length dashes.now ≡ 32
     → said (whole (start job) j) ≡ said_by 4096 32 job.now
-says_by job commands dashes is many few = ap (λ k. said (whole (start job) k)) is ∙ says job commands dashes ∙ (λ i. said_by (many i) (few i) job.now)
+says_by job commands dashes is many few = ap (λ k. said (whole (start job) k)) is ∙ says_in job commands dashes 4096 32 many (same_many job.now _ _ few)

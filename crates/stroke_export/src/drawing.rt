@@ -1,6 +1,6 @@
-ghost use Rattle.std.specs.Prelude.{◌≡◌, [], length};
+ghost use Rattle.std.specs.Prelude.{◌≡◌, ◌≤◌, [], length};
 ghost use Rattle.job.specs.Readers.{start};
-ghost use Rattle.job.specs.Sayings.{said};
+ghost use Rattle.job.specs.Sayings.{said, AsMany};
 ghost use Rattle.job.specs.Whole.{whole};
 ghost use Rattle.tape.specs.ByteSinks.{over, spelling};
 ghost use Rattle.stroke_export.specs.Drawings.{untouched, said_drawn, job_drawn, told_of, bytes_of, Writes};
@@ -24,6 +24,11 @@ use tape::byte_sink::ByteSink;
 // What the places of a list hold at first: all of it zeros, which a single memset writes.
 const ORIGIN: Point = Point { x: 0.0, y: 0.0 };
 
+// How many places a list of commands has.
+const FEW_COMMANDS: usize = 128;
+
+const SOME_COMMANDS: usize = 1024;
+
 const MOST_COMMANDS: usize = 4096;
 
 const MOST_DASHES: usize = 32;
@@ -32,7 +37,8 @@ const MOST_SEGMENTS: usize = 4096;
 
 const MOST_STEPS: u32 = 65_536;
 
-// Reads a job and strokes it onto the bytes.
+// Reads a job and strokes it onto the bytes. A short job gives no more commands than it has bytes, and is
+// read into a short list, which is sooner filled.
 pub(crate) fn drawn<B: Storage, K: MathsHost>(
     job: &[u8],
     bytes: &mut [u8],
@@ -42,7 +48,28 @@ pub(crate) fn drawn<B: Storage, K: MathsHost>(
     ensures answer { result ≡ told_of (job_drawn (K.functions host.old) (B.capacity storage.old) job.now (length bytes.old)) }
     ensures bytes { bytes.new ≡ bytes_of (job_drawn (K.functions host.old) (B.capacity storage.old) job.now (length bytes.old)) bytes.old }
 {
-    let mut commands = [Command::MoveTo(ORIGIN); MOST_COMMANDS];
+    if job.len() < FEW_COMMANDS {
+        drawn_in::<FEW_COMMANDS, B, K>(job, bytes, storage, host)
+    } else if job.len() < SOME_COMMANDS {
+        drawn_in::<SOME_COMMANDS, B, K>(job, bytes, storage, host)
+    } else {
+        drawn_in::<MOST_COMMANDS, B, K>(job, bytes, storage, host)
+    }
+}
+
+// By a list of so many commands.
+fn drawn_in<const N: usize, B: Storage, K: MathsHost>(
+    job: &[u8],
+    bytes: &mut [u8],
+    storage: &mut B,
+    host: &mut K,
+) -> Answer
+    requires few { N ≤ 4096 }
+    requires many { AsMany job.now N 4096 }
+    ensures answer { result ≡ told_of (job_drawn (K.functions host.old) (B.capacity storage.old) job.now (length bytes.old)) }
+    ensures bytes { bytes.new ≡ bytes_of (job_drawn (K.functions host.old) (B.capacity storage.old) job.now (length bytes.old)) bytes.old }
+{
+    let mut commands = [Command::MoveTo(ORIGIN); N];
     let mut dashes = [0.0; MOST_DASHES];
     let mut read = Job::new(&mut commands, &mut dashes);
     drawn_in_lists(job, &mut read, bytes, storage, host)

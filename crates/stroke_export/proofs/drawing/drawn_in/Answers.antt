@@ -4,7 +4,7 @@ use Rattle.job.specs.Sayings.{said, said_by}
 use Rattle.job.specs.Whole.{whole}
 use Rattle.stroke_export.specs.Drawings.{said_drawn, untouched, told_of, bytes_of}
 use Rattle.stroke_export.proofs.Writings.{says_by}
-use Rattle.stroke_export.proofs.drawing.drawn.Goals as goal
+use Rattle.stroke_export.proofs.drawing.drawn_in.Goals as goal
 
 pub returns-clause-answer : goal.returns-clause-answer
 returns-clause-answer g c =
