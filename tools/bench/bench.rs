@@ -18,11 +18,7 @@ struct Answer {
 
 extern "C" {
     fn stroke_job(job: *const u8, job_length: usize, bytes: *mut u8, bytes_length: usize, answer: *mut Answer);
-
-    fn stroke_job_long(job: *const u8, job_length: usize, bytes: *mut u8, bytes_length: usize, answer: *mut Answer);
 }
-
-type Call = unsafe extern "C" fn(*const u8, usize, *mut u8, usize, *mut Answer);
 
 const ROUNDS: usize = 41;
 const ROUND: f64 = 0.002;
@@ -31,8 +27,6 @@ struct Case {
     name: String,
     style: Stroke<'static>,
     path: Vec<Command>,
-    /// Ours: with room for 128 segments, or for 4,096.
-    call: Call,
 }
 
 struct Chance(u64);
@@ -46,7 +40,7 @@ impl Chance {
     }
 }
 
-/// A line as a finger draws it: some steps of about 3, and now and then the next part.
+/// Lines as a finger draws them, in steps of about 3: a part of 100 points, and the next.
 fn signature(points: usize) -> Vec<Command> {
     let mut chance = Chance(0x9e37_79b9_7f4a_7c15);
     let mut path = Vec::new();
@@ -60,22 +54,27 @@ fn signature(points: usize) -> Vec<Command> {
     path
 }
 
-/// A closed path of so many cubics about a circle, each of about 60 in length.
-fn glyph(curves: usize) -> Vec<Command> {
+/// So many commands: closed paths of 30 cubics about a circle, each of about 60 in length, the last
+/// path of as many cubics as are left.
+fn glyphs(commands: usize) -> Vec<Command> {
     let mut chance = Chance(0x1234_5678_9abc_def1);
-    let at = |i: f32, radius: f32| {
-        let angle = i * std::f32::consts::TAU / curves as f32;
-        let radius = radius + 10.0 * (curves as f32 - 30.0);
-        Point::new(500.0 + radius * angle.cos(), 500.0 + radius * angle.sin())
-    };
-    let mut path = vec![Command::MoveTo(at(0.0, 300.0))];
-    for i in 0..curves {
-        let t = i as f32;
-        let a = at(t + 0.33, 260.0 + 80.0 * chance.next());
-        let b = at(t + 0.67, 260.0 + 80.0 * chance.next());
-        path.push(Command::CurveTo(a, b, at(t + 1.0, 300.0)));
+    let mut path = Vec::new();
+    while path.len() < commands {
+        let curves = 30.min(commands - path.len() - 2);
+        let middle = 500.0 + path.len() as f32;
+        let at = |i: f32, radius: f32| {
+            let angle = i * std::f32::consts::TAU / 30.0;
+            Point::new(middle + radius * angle.cos(), 500.0 + radius * angle.sin())
+        };
+        path.push(Command::MoveTo(at(0.0, 300.0)));
+        for i in 0..curves {
+            let t = i as f32;
+            let a = at(t + 0.33, 260.0 + 80.0 * chance.next());
+            let b = at(t + 0.67, 260.0 + 80.0 * chance.next());
+            path.push(Command::CurveTo(a, b, at(t + 1.0, 300.0)));
+        }
+        path.push(Command::Close);
     }
-    path.push(Command::Close);
     path
 }
 
@@ -132,9 +131,9 @@ fn record(bytes: &mut Vec<u8>, command: &Command) {
     }
 }
 
-fn ours(job: &[u8], call: Call, bytes: &mut [u8]) -> Answer {
+fn ours(job: &[u8], bytes: &mut [u8]) -> Answer {
     let mut answer = Answer::default();
-    unsafe { call(job.as_ptr(), job.len(), bytes.as_mut_ptr(), bytes.len(), &mut answer) };
+    unsafe { stroke_job(job.as_ptr(), job.len(), bytes.as_mut_ptr(), bytes.len(), &mut answer) };
     answer
 }
 
@@ -197,26 +196,25 @@ fn measure(case: &Case) {
     let mut bytes = vec![0u8; 4 << 20];
     let mut out = Vec::new();
     zenos(case, &mut out);
-    let answer = ours(&job, case.call, &mut bytes);
+    let answer = ours(&job, &mut bytes);
     let apart = apart(&bytes[..answer.length as usize], &out);
-    let ours_turns = turns(|| { black_box(ours(black_box(&job), case.call, &mut bytes)); });
+    let ours_turns = turns(|| { black_box(ours(black_box(&job), &mut bytes)); });
     let zenos_turns = turns(|| zenos(black_box(case), black_box(&mut out)));
-    let empty_turns = turns(|| { black_box(ours(black_box(&[]), case.call, &mut bytes)); });
-    let (mut a, mut b, mut c) = (Vec::new(), Vec::new(), Vec::new());
+    let (mut a, mut b) = (Vec::new(), Vec::new());
     for _ in 0..ROUNDS {
-        a.push(once(ours_turns, || { black_box(ours(black_box(&job), case.call, &mut bytes)); }));
+        a.push(once(ours_turns, || { black_box(ours(black_box(&job), &mut bytes)); }));
         b.push(once(zenos_turns, || zenos(black_box(case), black_box(&mut out))));
-        c.push(once(empty_turns, || { black_box(ours(black_box(&[]), case.call, &mut bytes)); }));
     }
-    let (a, b, c) = (median(a), median(b), median(c));
+    let (a, b) = (median(a), median(b));
+    let each = |time: f64| 1e3 * time / case.path.len() as f64;
     let apart = apart.map_or("other commands".to_string(), |x| format!("{x:.1e}"));
     let end = match answer.refusal {
-        0 => format!("{} commands", answer.sent),
+        0 => format!("{} sent", answer.sent),
         n => format!("refused by {n} at {}", answer.place),
     };
     println!(
-        "{:<34} {:>9.1} {:>9.1} {:>7.2} {:>9.1} {:>7.2}   {end}, zeno {}; apart {apart}",
-        case.name, a, b, a / b, c, (a - c) / b, out.len()
+        "{:<32} {:>8.1} {:>8.1} {:>6.2} {:>8.0} {:>8.0}   {end}, zeno {}; apart {apart}",
+        case.name, a, b, a / b, each(a), each(b), out.len()
     );
 }
 
@@ -225,7 +223,7 @@ fn alone(case: &Case, turns: usize) {
     let job = job(case);
     let mut bytes = vec![0u8; 4 << 20];
     for _ in 0..turns {
-        black_box(ours(black_box(&job), case.call, &mut bytes));
+        black_box(ours(black_box(&job), &mut bytes));
     }
 }
 
@@ -233,29 +231,29 @@ fn main() {
     let round = style(2.0, Join::Round, Cap::Round, &[], 0.0);
     let dashed = style(2.0, Join::Round, Cap::Round, &[4.0, 4.0], 1.0);
     let miter = style(2.0, Join::Miter, Cap::Butt, &[], 0.0);
-    let case = |name: String, style, path, call: Call| Case { name, style, path, call };
-    let a = case("a signature, 300 points, round".into(), round, signature(300), stroke_job);
-    let b = case("b glyph, 30 cubics, miter".into(), miter, glyph(30), stroke_job);
-    let c = case("c signature, dashed 4 4 by 1".into(), dashed, signature(300), stroke_job);
+    let case = |name: &str, style, path| Case { name: name.to_string(), style, path };
+    let three = [
+        case("a: signature, 300 points, round", round, signature(300)),
+        case("b: glyph, 30 cubics, miter", miter, glyphs(32)),
+        case("c: signature, dashed 4 4 from 1", dashed, signature(300)),
+    ];
     let arguments: Vec<String> = std::env::args().skip(1).collect();
     if let [which, turns] = &arguments[..] {
-        let case = [&a, &b, &c].into_iter().find(|case| case.name.starts_with(which.as_str()));
+        let case = three.iter().find(|case| case.name.starts_with(which.as_str()));
         return alone(case.expect("a, b or c"), turns.parse().expect("a number of turns"));
     }
     println!(
-        "{:<34} {:>9} {:>9} {:>7} {:>9} {:>7}",
-        "microseconds, medians", "ours", "zeno's", "ratio", "no path", "ratio without"
+        "{:<32} {:>8} {:>8} {:>6} {:>8} {:>8}",
+        "microseconds, medians", "ours", "zeno's", "ratio", "ns each", "zeno's"
     );
-    measure(&a);
-    measure(&b);
-    measure(&c);
-    for n in [10, 30, 100, 300, 1000, 4000, 4096] {
-        measure(&case(format!("  {n} points, round"), round, signature(n), stroke_job));
+    three.iter().for_each(measure);
+    for n in [10, 30, 100, 300, 1000, 4000] {
+        measure(&case(&format!("  {n} commands, round"), round, signature(n)));
     }
     for n in [10, 30, 100, 300, 1000, 4000] {
-        measure(&case(format!("  {n} points, dashed"), dashed, signature(n), stroke_job));
+        measure(&case(&format!("  {n} commands, dashed"), dashed, signature(n)));
     }
-    for n in [10, 100, 1000] {
-        measure(&case(format!("  {n} cubics, miter"), miter, glyph(n), stroke_job_long));
+    for n in [10, 32, 96, 320, 992, 4000] {
+        measure(&case(&format!("  {n} commands, cubics"), miter, glyphs(n)));
     }
 }
