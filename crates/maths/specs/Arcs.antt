@@ -3,16 +3,21 @@ use Rattle.std.specs.Prelude.{cond, [], ◌∷◌, from_bits, Float}
 use Rattle.std.specs.Float.Ieee.{lt, neg}
 use Rattle.std.specs.Float.{sqrt, nan, binary32, binary64}
 use Rattle.maths.specs.Functions.{in_range}
-use Rattle.maths.specs.Wide.{◌⊕◌, ◌⊖◌, ◌⊗◌, wide, polynomial}
+use Rattle.maths.specs.Wide.{◌⊕◌, ◌⊖◌, ◌⊗◌, wide, paired}
+
+-- the arc sine over the sine, by the sine's square
+abbrev pub arc_series : Float → Float
+arc_series z = paired
+    0x3ff0_0000_0011_7f17 (0x3fb3_3398_8d61_752c ∷ 0x3fa0_554d_b2d0_b040 ∷ 0x3fa3_65be_bfee_9d66 ∷ [])
+    0x3fc5_5554_848e_38eb (0x3fa6_c91b_bfc1_64b2 ∷ 0x3f8c_f525_bfd5_46f9 ∷ []) z
 
 -- the arc sine of at most a half
 abbrev pub near_arc : Float → Float
-near_arc x = x ⊗ polynomial 0x3ff0_0000_0000_0e93
-    (0x3fc5_5555_542e_c018 ∷ 0x3fb3_3334_26e9_37cb ∷ 0x3fa6_db20_9263_9250 ∷ 0x3f9f_2894_1e17_d365 ∷ 0x3f96_6113_388c_13a0 ∷ 0x3f95_2ee6_dea6_9de2 ∷ 0x3f5f_26a2_9c10_87f8 ∷ 0x3fa0_e1d3_9035_4692 ∷ []) (x ⊗ x)
+near_arc x = x ⊗ arc_series (x ⊗ x)
 
 -- the angle at the end of the circle's axis, by the distance 1 - |x| from it
 abbrev pub end_arc : Float → Float
-end_arc gap = wide 0x4000_0000_0000_0000 ⊗ near_arc (sqrt binary64 (gap ⊗ wide 0x3fe0_0000_0000_0000))
+end_arc gap = sqrt binary64 (gap ⊕ gap) ⊗ arc_series (gap ⊗ wide 0x3fe0_0000_0000_0000)
 
 abbrev pub wide_arc : Float → Float
 wide_arc x =

@@ -30,10 +30,9 @@ abbrev pub polynomial : ℕ → List ℕ → Float → Float
 polynomial c [] z = wide c
 polynomial c (d ∷ ds) z = wide c ⊕ z ⊗ polynomial d ds z
 
--- c₀ - z (c₁ - z (c₂ - ..))
-abbrev pub alternating : ℕ → List ℕ → Float → Float
-alternating c [] z = wide c
-alternating c (d ∷ ds) z = wide c ⊖ z ⊗ alternating d ds z
+-- c₀ + z d₀ + z² c₁ + z³ d₁ + .., the even powers and the odd ones apart
+abbrev pub paired : ℕ → List ℕ → ℕ → List ℕ → Float → Float
+paired c cs d ds z = polynomial c cs (z ⊗ z) ⊕ z ⊗ polynomial d ds (z ⊗ z)
 
 -- steps by coefficients, from the last one to the first
 abbrev pub nested : (Float → Float → Float) → List Float → Float

@@ -1,11 +1,10 @@
 ghost use Rattle.std.specs.Prelude.{◌≡◌, refl, Float};
-ghost use Rattle.maths.specs.Series.{series_sine, series_cosine, series_tangent, series_arc, series_power, series, narrow, Special};
+ghost use Rattle.maths.specs.Series.{small, series_sine, series_cosine, series_tangent, series_arc, series_power, series, narrow, Special};
 ghost use Rattle.maths.specs.Angles.{kept_angle, restricted_angle};
 ghost use Rattle.maths.specs.Functions.{restricted};
 ghost use Rattle.maths.specs.Narrow.{again};
 
 use crate::host::{Function, MathsHost};
-use crate::series::circle::Quarters;
 use std::num::f32_to_f64_with_nan;
 
 pub(crate) mod arcs;
@@ -46,6 +45,7 @@ impl MathsHost for SeriesHost {
     ghost narrow = { λ s. again series };
 
     #[tactic(auto, using(crate::proofs::Alike::asked_within))]
+    #[inline(always)]
     // A match, since a question names its function, as a row of a table does.
     fn ask(&mut self, f: Function, x: f32) -> f32 {
         match f {
@@ -59,6 +59,7 @@ impl MathsHost for SeriesHost {
 }
 
 // Worked out in `f64`, and rounded once.
+#[inline(always)]
 fn rounded<F: FnOnce(f64) -> f64>(x: f32, wide: F) -> f32
     requires { F.IsAlwaysCallable wide }
     ensures { (y : Float) × F.post wide x y × (result ≡ narrow y) }
@@ -66,30 +67,55 @@ fn rounded<F: FnOnce(f64) -> f64>(x: f32, wide: F) -> f32
     narrowing::nearest(wide(f32_to_f64_with_nan(x)))
 }
 
+// Whether `x` lies below 2^-12, both ways.
+#[inline(always)]
+fn small(x: f32) -> bool
+    ensures { result ≡ small x }
+{
+    x * x < 0.000000059604644775390625
+}
+
+#[inline(always)]
 fn sine(x: f32) -> f32
     ensures { result ≡ series_sine x }
 {
-    rounded(x, |y| Quarters::new(y).sine())
+    if small(x) {
+        x
+    } else {
+        rounded(x, circle::sine)
+    }
 }
 
+#[inline(always)]
 fn cosine(x: f32) -> f32
     ensures { result ≡ series_cosine x }
 {
-    rounded(x, |y| Quarters::new(y).cosine())
+    if small(x) {
+        1.0
+    } else {
+        rounded(x, circle::cosine)
+    }
 }
 
+#[inline(always)]
 fn tangent(x: f32) -> f32
     ensures { result ≡ series_tangent x }
 {
-    rounded(x, |y| Quarters::new(y).tangent())
+    if small(x) {
+        x
+    } else {
+        rounded(x, circle::tangent)
+    }
 }
 
+#[inline(always)]
 fn arc_cosine(x: f32) -> f32
     ensures { result ≡ series_arc x }
 {
     arcs::kept(rounded(x, arcs::arc_cosine))
 }
 
+#[inline(always)]
 fn power(x: f32) -> f32
     ensures { result ≡ series_power x }
 {

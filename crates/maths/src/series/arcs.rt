@@ -1,10 +1,11 @@
 ghost use Rattle.std.specs.Prelude.{◌≡◌};
-ghost use Rattle.maths.specs.Arcs.{near_arc, end_arc, wide_arc, kept};
+ghost use Rattle.maths.specs.Arcs.{arc_series, near_arc, end_arc, wide_arc, kept};
 
 use crate::host::{HALF_TURN, in_range, not_a_number};
-use crate::series::polynomials::polynomial;
+use crate::series::polynomials::paired;
 
 /// The arc cosine; NaN past -1 and 1, where a root of a negative number is taken.
+#[inline(always)]
 pub(crate) fn arc_cosine(x: f64) -> f64
     ensures { result ≡ wide_arc x }
 {
@@ -17,34 +18,47 @@ pub(crate) fn arc_cosine(x: f64) -> f64
     }
 }
 
-// The angle whose cosine is 1 - `gap`, for a gap of at most a half.
+// The angle whose cosine is 1 - `gap`, for a gap of at most a half: twice the arc sine of the root of
+// half the gap.
+#[inline(always)]
 fn end_arc(gap: f64) -> f64
     ensures { result ≡ end_arc gap }
 {
-    2.0 * near_arc((gap * 0.5).sqrt())
+    (gap + gap).sqrt() * arc_series(gap * 0.5)
 }
 
-const ARC: [f64; 9] = [
-    1.0000000000008284,
-    0.16666666613082337,
-    0.07500005674339076,
-    0.044640558118577034,
-    0.030428232514128867,
-    0.021854687048307064,
-    0.020686728801278316,
-    0.0019013011917725624,
-    0.032972918847588364,
-];
-
 // The arc sine of at most a half.
+#[inline(always)]
 fn near_arc(x: f64) -> f64
     ensures { result ≡ near_arc x }
 {
-    x * polynomial(&ARC, x * x)
+    x * arc_series(x * x)
+}
+
+const EVEN: [f64; 4] = [
+    1.0000000002546068,
+    0.07500604106595138,
+    0.03190081413080792,
+    0.037885628632745846,
+];
+
+const ODD: [f64; 3] = [
+    0.1666665694469381,
+    0.044503085286757296,
+    0.01413945666959958,
+];
+
+// The arc sine over the sine, by the sine's square.
+#[inline(always)]
+fn arc_series(z: f64) -> f64
+    ensures { result ≡ arc_series z }
+{
+    paired(&EVEN, &ODD, z)
 }
 
 /// An angle within its range, or the end of the range that it passes; NaN stays NaN. Its first test is
 /// that of a host's law, which `clamp` would not share.
+#[inline(always)]
 pub(crate) fn kept(y: f32) -> f32
     ensures { result ≡ kept y }
 {

@@ -2,59 +2,84 @@ ghost use Rattle.std.specs.Prelude.{◌≡◌};
 ghost use Rattle.std.specs.Float.{binary64};
 ghost use Rattle.std.specs.Float.Ieee.{rem};
 ghost use Rattle.maths.specs.Wide.{◌⊗◌, wide};
-ghost use Rattle.maths.specs.Circle.{quarters, quadrant, near_sine, near_cosine, along, wide_sine, wide_cosine, wide_tangent};
+ghost use Rattle.maths.specs.Circle.{whole_turns, near_turned, far_turned, turned, near_sine, folded, wide_sine, wide_cosine, wide_tangent};
 
-use crate::series::polynomials::alternating;
+use crate::series::polynomials::paired;
 
-/// An angle in quarter turns, but for whole turns: a whole number and at most half a quarter.
-#[derive(Clone, Copy)]
-pub(crate) struct Quarters {
-    pub(crate) whole: f64,
-    pub(crate) rest: f64,
+/// The sine of `x` radians.
+#[inline(always)]
+pub(crate) fn sine(x: f64) -> f64
+    ensures { result ≡ wide_sine x }
+{
+    folded(turned(x, 0.5))
 }
 
-impl Quarters {
-    /// The quarters of `x` radians. 2/π stands in eight parts of 24 bits, so each product with an
-    /// `f32` is exact, and whole turns leave it exactly: that serves every finite `f32`.
-    pub(crate) fn new(x: f64) -> Quarters
-        ensures { result ≡ quarters x }
-    {
-        // eight names, since the parts are added up twice, and the second time from the middle
-        let a = piece(x, 0.6366197466850281);
-        let b = piece(x, 2.5682552973194106e-08);
-        let c = piece(x, 2.937095214933759e-16);
-        let d = piece(x, 3.2543794001732456e-23);
-        let e = piece(x, 1.2089613708828537e-29);
-        let f = piece(x, 5.667556795740071e-37);
-        let g = piece(x, 2.6204031112097215e-44);
-        let h = piece(x, 7.053957680880629e-52);
-        // plus 0: the whole quarters of -0 are 0, so its rest is -0
-        let whole = (a + b + c + d + e + f + g + h).round_ties_even() + 0.0;
-        let rest = a - whole + b + c + d + e + f + g + h;
-        Quarters { whole, rest }
-    }
+/// The cosine of `x` radians.
+#[inline(always)]
+pub(crate) fn cosine(x: f64) -> f64
+    ensures { result ≡ wide_cosine x }
+{
+    folded(turned(x, 0.0))
+}
 
-    // The sine and the cosine are a quarter apart, which as a parameter would be added to each angle.
-    pub(crate) fn sine(self) -> f64
-        ensures { result ≡ wide_sine self }
-    {
-        along(quadrant(self.whole), self.rest)
-    }
+/// The tangent of `x` radians.
+#[inline(always)]
+pub(crate) fn tangent(x: f64) -> f64
+    ensures { result ≡ wide_tangent x }
+{
+    sine(x) / cosine(x)
+}
 
-    pub(crate) fn cosine(self) -> f64
-        ensures { result ≡ wide_cosine self }
-    {
-        along(quadrant(self.whole + 1.0), self.rest)
-    }
-
-    pub(crate) fn tangent(self) -> f64
-        ensures { result ≡ wide_tangent self }
-    {
-        self.sine() / self.cosine()
+// Half turns from the nearest whole turn, of `x` radians turned back by so many.
+#[inline(always)]
+fn turned(x: f64, back: f64) -> f64
+    ensures { result ≡ turned x back }
+{
+    if x * x < 16384.0 {
+        near_turned(x, back)
+    } else {
+        far_turned(x, back)
     }
 }
 
-// A part of `x` in quarter turns, without whole turns.
+// By one product with 1/π.
+#[inline(always)]
+fn near_turned(x: f64, back: f64) -> f64
+    ensures { result ≡ near_turned x back }
+{
+    let half_turns = x * 0.3183098861837907 - back;
+    half_turns - whole_turns(half_turns)
+}
+
+// 1/π stands in eight parts of 24 bits, so each product with an `f32` is exact, and whole turns leave
+// it exactly: that serves every finite `f32`.
+#[cold]
+#[inline(never)]
+fn far_turned(x: f64, back: f64) -> f64
+    ensures { result ≡ far_turned x back }
+{
+    // eight names, since the parts are added up twice, and the second time from the middle
+    let a = piece(x, 0.31830987334251404) - back;
+    let b = piece(x, 1.2841276486597053e-08);
+    let c = piece(x, 1.4685476074668795e-16);
+    let d = piece(x, 1.6271897000866228e-23);
+    let e = piece(x, 6.0448068544142686e-30);
+    let f = piece(x, 2.8337783978700357e-37);
+    let g = piece(x, 1.3102015556048607e-44);
+    let h = piece(x, 3.526978840440314e-52);
+    let whole = whole_turns(a + b + c + d + e + f + g + h);
+    a - whole + b + c + d + e + f + g + h
+}
+
+// The nearest even number: the first sum lies where floats are 2 apart.
+#[inline(always)]
+fn whole_turns(half_turns: f64) -> f64
+    ensures { result ≡ whole_turns half_turns }
+{
+    half_turns + 13510798882111488.0 - 13510798882111488.0
+}
+
+// A part of `x` in half turns, without two whole turns.
 fn piece(x: f64, part: f64) -> f64
     ensures { result ≡ rem binary64 (x ⊗ part) (wide 0x4010_0000_0000_0000) }
 {
@@ -76,59 +101,31 @@ fn rest_of_four(t: f64) -> f64
     }
 }
 
-// Whole quarters without whole turns: 0, 1, 2 or 3, as a float, so that no NaN needs a case.
-fn quadrant(whole: f64) -> f64
-    ensures { result ≡ quadrant whole }
+// The cosine of at most one half turn, both ways, as the sine of what lacks to a quarter turn.
+#[inline(always)]
+fn folded(half_turns: f64) -> f64
+    ensures { result ≡ folded half_turns }
 {
-    whole - 4.0 * (whole * 0.25).floor()
-}
-
-// The sine where a quadrant starts, and `rest` further.
-fn along(quadrant: f64, rest: f64) -> f64
-    ensures { result ≡ along quadrant rest }
-{
-    if quadrant == 0.0 {
-        near_sine(rest)
-    } else if quadrant == 1.0 {
-        near_cosine(rest)
-    } else if quadrant == 2.0 {
-        -near_sine(rest)
+    let size = if half_turns < 0.0 {
+        -half_turns
     } else {
-        -near_cosine(rest)
-    }
+        half_turns
+    };
+    near_sine(0.5 - size)
 }
 
-const SINE: [f64; 7] = [
-    1.5707963267948966,
-    0.6459640975062443,
-    0.07969262624604276,
-    0.004681754132336218,
-    0.00016044115070141775,
-    3.59864319355575e-06,
-    5.633910598053464e-08,
+const EVEN: [f64; 3] = [3.141592653523345, 2.5501632403134726, 0.08204647859053259];
+
+const ODD: [f64; 3] = [
+    -5.167712762115666,
+    -0.599251330057225,
+    -0.007022163117645056,
 ];
 
-// The sine of at most half a quarter turn.
+// The sine of at most a quarter turn, in half turns.
+#[inline(always)]
 fn near_sine(r: f64) -> f64
     ensures { result ≡ near_sine r }
 {
-    r * alternating(&SINE, r * r)
-}
-
-const COSINE: [f64; 8] = [
-    1.0,
-    1.2337005501361697,
-    0.2536695079010467,
-    0.020863480763311126,
-    0.000919260274182107,
-    2.520203676375042e-05,
-    4.710609515348118e-07,
-    6.321230856185146e-09,
-];
-
-// The cosine of at most half a quarter turn.
-fn near_cosine(r: f64) -> f64
-    ensures { result ≡ near_cosine r }
-{
-    alternating(&COSINE, r * r)
+    r * paired(&EVEN, &ODD, r * r)
 }
