@@ -1,14 +1,15 @@
 -- What a series host answers at special arguments: each is worked out.
-use Rattle.std.proofs.Common.{◌≡◌, ℕ, suc, ◌*◌, ◌<◌, Bool, true, false, ℤ, pos, refl, suc-le-suc, zero-le, mul-pos, arith}
+use Rattle.std.proofs.Common.{◌≡◌, ℕ, zero, suc, ◌+◌, ◌*◌, ◌^◌, ◌<◌, ◌≢◌, Bool, true, false, not, ◌&&◌, T, ℤ, pos, negsuc, refl, sym, subst, ◌∙◌, suc-le-suc, zero-le, mul-pos, pow_pos, pow-add, mul-one, one-mul, true≢false, eqb-true, arith}
 use lib.Count.{count_trailing_zeros}
-use lib.Ieee.{nan, inf, fin, add, sub, mul, div, rem, neg, eq, lt, le, up, down, round, sum, size, span, climb, units, odd, of_bits, of_fields}
-use lib.Ieee.Fits.{up_pos}
-use Rattle.std.specs.Float.{round_to_format, round_with, float_is_finite, sqrt, float_zero}
-use Rattle.std.proofs.lemmas.Bool.{lt-ltb}
+use lib.Ieee.{Float, binary32, binary64, fits, is_nan, nan, inf, fin, add, sub, mul, div, rem, neg, eq, lt, le, up, down, round, sum, size, span, climb, units, odd, of_bits, of_fields}
+use lib.Ieee.Fits.{up_pos, and_i, fits_widens}
+use Rattle.std.proofs.lemmas.Float.{T_from_true}
+use Rattle.std.specs.Float.{round_to_format, sqrt, float_zero, NotNan}
+use Rattle.std.proofs.lemmas.Bool.{lt-ltb, ne_eqb, and_left}
 use Rattle.maths.specs.declared.host.Function.{Function}
 use Rattle.maths.specs.declared.host.Function.TheVariants.{Sine, Cosine, ArcCosine, Tangent, Power}
 use Rattle.maths.specs.Functions.{apply}
-use Rattle.maths.specs.Series.{series, Special}
+use Rattle.maths.specs.Series.{series, series_sine, series_cosine, Special}
 
 power_of_zero : (s : Bool) → series.power (fin s 0 (pos 0)) ≡ float_zero
 unfolding mul lt of_bits of_fields odd round_to_format round size span climb units
@@ -19,6 +20,52 @@ power_of_infinity : (s : Bool) → series.power (inf s) ≡ inf false
 unfolding mul lt of_bits round_to_format
 power_of_infinity true = refl
 power_of_infinity false = refl
+
+-- ---- 0, of either sign
+
+positive : (m : ℕ) (e : ℤ) → 0 < suc m * up e
+positive m e = mul-pos (suc-le-suc zero-le) (up_pos e)
+
+one : (k : ℕ) → 2 ^ suc k ≢ 1
+one k h = let p : 0 < 2 ^ k = pow_pos k in let is : 2 ^ (k + 1) ≡ 2 ^ k * 2 = pow-add 2 k 1 in omega arith
+
+not_zero : (s : Bool) (m : ℕ) (e : ℤ) → eq (fin s (suc m) e) float_zero ≡ false
+unfolding eq
+not_zero s m e = let p = positive m e in and_left _ _ (ne_eqb (suc m * up e * 1) (0 * down e) (λ q. omega arith))
+
+canonical : (s : Bool) (e : ℤ) → fits binary32 (fin s 0 e) ≡ true → fin s 0 e ≡ fin s 0 (pos 0)
+unfolding fits
+canonical s (pos zero) h = refl
+canonical s (pos (suc k)) h = absurd (one k (sym (mul-one (2 ^ suc k)) ∙ eqb-true (2 ^ suc k * 1) 1 h))
+canonical s (negsuc k) h = absurd (one k (sym (one-mul (2 ^ suc k)) ∙ eqb-true (1 * 2 ^ suc k) 1 h))
+
+at_zeros : (P : Float → Type 0) → P (fin false 0 (pos 0)) → P (fin true 0 (pos 0)) → (x : Float) → fits binary32 x ≡ true → eq x float_zero ≡ true → P x
+unfolding eq
+at_zeros P p n nan f h = absurd (true≢false (sym h))
+at_zeros P p n (inf s) f h = absurd (true≢false (sym h))
+at_zeros P p n (fin false zero e) f h = subst P (sym (canonical false e f)) p
+at_zeros P p n (fin true zero e) f h = subst P (sym (canonical true e f)) n
+at_zeros P p n (fin s (suc m) e) f h = absurd (true≢false (sym h ∙ not_zero s m e))
+
+pub sine_of_zeros : (x : Float) → fits binary32 x ≡ true → eq x (of_bits binary32 0) ≡ true → x ≡ series_sine x
+unfolding add sub mul neg lt of_bits of_fields odd round sum size span climb units round_to_format count_trailing_zeros
+sine_of_zeros = at_zeros (λ x. x ≡ series_sine x) refl refl
+
+pub cosine_of_zeros : (x : Float) → fits binary32 x ≡ true → eq x (of_bits binary32 0) ≡ true → of_bits binary32 0x3F80_0000 ≡ series_cosine x
+unfolding add sub mul neg lt of_bits of_fields odd round sum size span climb units round_to_format count_trailing_zeros
+cosine_of_zeros = at_zeros (λ x. of_bits binary32 0x3F80_0000 ≡ series_cosine x) refl refl
+
+number : (x c : Float) → lt (mul binary32 x x) c ≡ true → NotNan x
+unfolding mul lt is_nan
+number nan c h = absurd (true≢false (sym h))
+number (inf s) c h = tt
+number (fin s m e) c h = tt
+
+-- so an f64 holds it
+pub near_is_number : (x c : Float) → fits binary32 x ≡ true → lt (mul binary32 x x) c ≡ true → T (fits binary64 x && not (is_nan x))
+near_is_number x c f h = and_i (fits binary64 x) (not (is_nan x)) (fits_widens x (T_from_true _ f)) (number x c h)
+
+-- ---- infinities, NaN, ends
 
 sine_of_infinity : (s : Bool) → series.sine (inf s) ≡ nan
 unfolding add sub mul rem neg lt of_bits of_fields odd count_trailing_zeros round_to_format
@@ -41,15 +88,12 @@ arc_of_infinity true = refl
 arc_of_infinity false = refl
 
 of_nan : (f : Function) → apply series f nan ≡ nan
-unfolding add sub mul div rem neg eq lt le of_bits of_fields odd count_trailing_zeros round_to_format round_with float_is_finite
+unfolding add sub mul div rem neg eq lt le of_bits of_fields odd count_trailing_zeros round_to_format
 of_nan Sine = refl
 of_nan Cosine = refl
 of_nan ArcCosine = refl
 of_nan Tangent = refl
 of_nan Power = refl
-
-positive : (m : ℕ) (e : ℤ) → 0 < suc m * up e
-positive m e = mul-pos (suc-le-suc zero-le) (up_pos e)
 
 below_zero : (m : ℕ) (e : ℤ) → lt (fin true (suc m) e) float_zero ≡ true
 unfolding lt
@@ -60,7 +104,7 @@ unfolding lt of_bits of_fields odd count_trailing_zeros round_to_format
 power_below_zero m e = rw (below_zero m e)
 
 pub special : Special
-unfolding add sub mul div rem neg eq lt le round sum size span climb units odd of_bits of_fields round_to_format round_with sqrt count_trailing_zeros
+unfolding add sub mul div rem neg eq lt le round sum size span climb units odd of_bits of_fields round_to_format sqrt count_trailing_zeros
 special = record {
   cosine_of_zero = refl;
   sine_of_zero = refl;

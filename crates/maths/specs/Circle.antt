@@ -1,7 +1,7 @@
 -- The steps by which a series host works out sine, cosine and tangent. Angles count in half turns.
-use Rattle.std.specs.Prelude.{ℕ, cond, [], ◌∷◌, Float}
-use Rattle.std.specs.Float.Ieee.{rem, neg, lt}
-use Rattle.std.specs.Float.{binary64}
+use Rattle.std.specs.Prelude.{ℕ, Bool, cond, [], ◌∷◌, from_bits, Float}
+use Rattle.std.specs.Float.Ieee.{mul, rem, neg, lt}
+use Rattle.std.specs.Float.{binary32, binary64}
 use Rattle.maths.specs.Wide.{◌⊕◌, ◌⊖◌, ◌⊗◌, ◌⊘◌, wide, paired}
 
 -- the nearest even number
@@ -30,26 +30,26 @@ first_piece x back = piece x 0x3fd4_5f30_6000_0000 ⊖ back
 abbrev pub far_turned : Float → Float → Float
 far_turned x back = with_pieces x (first_piece x back ⊖ whole_turns (with_pieces x (first_piece x back)))
 
--- from the nearest whole turn, where x is turned back: near is below 128
+-- within 128, both ways
+abbrev pub near : Float → Bool
+near x = lt (mul binary32 x x) (from_bits binary32 0x4680_0000)
+
+-- x radians less so many half turns, from the nearest whole turn
 abbrev pub turned : Float → Float → Float
-turned x back = cond (lt (x ⊗ x) (wide 0x40d0_0000_0000_0000)) (near_turned x back) (far_turned x back)
+turned x back = cond (near x) (near_turned x back) (far_turned x back)
 
--- the sine of at most a quarter turn
-abbrev pub near_sine : Float → Float
-near_sine r = r ⊗ paired
-    0x4009_21fb_5441_e49c (0x4004_66bb_fc24_dcae ∷ 0x3fb5_00ff_7e4c_5d7f ∷ [])
-    0xc014_abbc_e4f1_a26c (0xbfe3_2d11_2015_c4e1 ∷ 0xbf7c_c345_8eff_d91d ∷ []) (r ⊗ r)
+-- the sine of at most one half turn, both ways: its zeros are factors
+abbrev pub sine_of : Float → Float
+sine_of r = r ⊗ (wide 0x3ff0_0000_0000_0000 ⊖ r) ⊗ (wide 0x3ff0_0000_0000_0000 ⊕ r) ⊗ paired
+    0x4009_21fb_528f_1c5e (0x3fe0_c4e4_be24_c32d ∷ 0x3f7c_1543_f57b_01fc ∷ [])
+    0xc000_357e_0896_7348 (0xbfb3_3f3d_902a_2bb9 ∷ 0xbf39_30b6_76fa_9e2b ∷ []) (r ⊗ r)
 
--- the cosine of at most one half turn, by what lacks to a quarter turn
-abbrev pub folded : Float → Float
-folded t = near_sine (wide 0x3fe0_0000_0000_0000 ⊖ cond (lt (neg t) t) t (neg t))
-
-abbrev pub wide_cosine : Float → Float
-wide_cosine x = folded (turned x (wide 0))
-
--- a quarter turn behind
 abbrev pub wide_sine : Float → Float
-wide_sine x = folded (turned x (wide 0x3fe0_0000_0000_0000))
+wide_sine x = sine_of (turned x (wide 0))
+
+-- a quarter turn on
+abbrev pub wide_cosine : Float → Float
+wide_cosine x = sine_of (turned x (neg (wide 0x3fe0_0000_0000_0000)))
 
 abbrev pub wide_tangent : Float → Float
 wide_tangent x = wide_sine x ⊘ wide_cosine x

@@ -1,7 +1,7 @@
 -- The steps by which a series host works out the power 0.3333333.
-use Rattle.std.specs.Prelude.{◌+◌, ◌/◌, cond, ◌&&◌, [], ◌∷◌, pos, to_bits, Float}
+use Rattle.std.specs.Prelude.{◌+◌, ◌/◌, cond, ◌&&◌, [], ◌∷◌, pos, to_bits, from_bits, Float}
 use Rattle.std.specs.Float.Ieee.{lt, of_int}
-use Rattle.std.specs.Float.{binary64}
+use Rattle.std.specs.Float.{binary32, binary64}
 use Rattle.maths.specs.Wide.{◌⊖◌, ◌⊗◌, ◌⊘◌, wide, paired}
 
 -- about the cube root: a third of the bits has a third of the exponent
@@ -21,8 +21,9 @@ lean x = wide 0x3ff0_000e_c5a6_ed1a ⊖ of_int binary64 (pos (to_bits binary64 x
 abbrev pub positive_power : Float → Float
 positive_power x = root x (near_root x) ⊗ lean x
 
--- an infinity gives infinity, a NaN and a number below 0 give NaN
+-- a NaN and a number below 0 give NaN, an infinity gives infinity
+abbrev pub improper_power : Float → Float
+improper_power x = cond (lt (wide 0xfff0_0000_0000_0000) x && lt x (wide 0)) (wide 0x7ff8_0000_0000_0000) (x ⊗ x)
+
 abbrev pub wide_power : Float → Float
-wide_power x =
-    cond (lt (wide 0) x && lt x (wide 0x7ff0_0000_0000_0000)) (positive_power x)
-    (cond (lt (wide 0xfff0_0000_0000_0000) x && lt x (wide 0)) (wide 0x7ff8_0000_0000_0000) (x ⊗ x))
+wide_power x = cond (lt (from_bits binary32 0) x && lt x (from_bits binary32 0x7f80_0000)) (positive_power x) (improper_power x)

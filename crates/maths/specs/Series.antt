@@ -1,7 +1,6 @@
 -- The functions of a series host: each is worked out in f64 and rounded once to f32.
-use Rattle.std.specs.Prelude.{◌≡◌, ℕ, suc, Bool, true, false, ℤ, pos, cond, from_bits, Float}
+use Rattle.std.specs.Prelude.{◌≡◌, ℕ, suc, Bool, true, false, ℤ, pos, from_bits, Float}
 use Rattle.std.specs.Float.{round_to_format, float_zero, float_one, nan, inf, fin, binary32}
-use Rattle.std.specs.Float.Ieee.{lt, mul}
 use Rattle.maths.specs.declared.host.Function.{Function}
 use Rattle.maths.specs.Functions.{Functions, apply}
 use Rattle.maths.specs.Circle.{wide_sine, wide_cosine, wide_tangent}
@@ -11,18 +10,14 @@ use Rattle.maths.specs.Powers.{wide_power}
 abbrev pub narrow : Float → Float
 narrow y = round_to_format binary32 y
 
--- below 2^-12 the nearest f32 to a sine or a tangent is its angle, and to a cosine 1
-abbrev pub small : Float → Bool
-small x = lt (mul binary32 x x) (from_bits binary32 0x3380_0000)
-
 abbrev pub series_sine : Float → Float
-series_sine x = cond (small x) x (narrow (wide_sine x))
+series_sine x = narrow (wide_sine x)
 
 abbrev pub series_cosine : Float → Float
-series_cosine x = cond (small x) float_one (narrow (wide_cosine x))
+series_cosine x = narrow (wide_cosine x)
 
 abbrev pub series_tangent : Float → Float
-series_tangent x = cond (small x) x (narrow (wide_tangent x))
+series_tangent x = narrow (wide_tangent x)
 
 abbrev pub series_arc : Float → Float
 series_arc x = kept (narrow (wide_arc x))

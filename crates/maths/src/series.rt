@@ -1,5 +1,5 @@
 ghost use Rattle.std.specs.Prelude.{◌≡◌, refl, Float};
-ghost use Rattle.maths.specs.Series.{small, series_sine, series_cosine, series_tangent, series_arc, series_power, series, narrow, Special};
+ghost use Rattle.maths.specs.Series.{series_sine, series_cosine, series_tangent, series_arc, series_power, series, narrow, Special};
 ghost use Rattle.maths.specs.Angles.{kept_angle, restricted_angle};
 ghost use Rattle.maths.specs.Functions.{restricted};
 ghost use Rattle.maths.specs.Narrow.{again};
@@ -58,42 +58,28 @@ impl MathsHost for SeriesHost {
     }
 }
 
-// Worked out in `f64`, and rounded once.
-#[inline(always)]
-fn rounded<F: FnOnce(f64) -> f64>(x: f32, wide: F) -> f32
-    requires { F.IsAlwaysCallable wide }
-    ensures { (y : Float) × F.post wide x y × (result ≡ narrow y) }
-{
-    narrowing::nearest(wide(f32_to_f64_with_nan(x)))
-}
-
-// Whether `x` lies below 2^-12, both ways.
-#[inline(always)]
-fn small(x: f32) -> bool
-    ensures { result ≡ small x }
-{
-    x * x < 0.000000059604644775390625
-}
-
+// At 0, which drawings ask most, the answer is known.
+#[tactic(auto, using(crate::proofs::Specials::sine_of_zeros))]
 #[inline(always)]
 fn sine(x: f32) -> f32
     ensures { result ≡ series_sine x }
 {
-    if small(x) {
+    if x == 0.0 {
         x
     } else {
-        rounded(x, circle::sine)
+        narrowing::nearest(circle::sine(x))
     }
 }
 
+#[tactic(auto, using(crate::proofs::Specials::cosine_of_zeros))]
 #[inline(always)]
 fn cosine(x: f32) -> f32
     ensures { result ≡ series_cosine x }
 {
-    if small(x) {
+    if x == 0.0 {
         1.0
     } else {
-        rounded(x, circle::cosine)
+        narrowing::nearest(circle::cosine(x))
     }
 }
 
@@ -101,23 +87,20 @@ fn cosine(x: f32) -> f32
 fn tangent(x: f32) -> f32
     ensures { result ≡ series_tangent x }
 {
-    if small(x) {
-        x
-    } else {
-        rounded(x, circle::tangent)
-    }
+    narrowing::nearest(circle::tangent(x))
 }
 
 #[inline(always)]
 fn arc_cosine(x: f32) -> f32
     ensures { result ≡ series_arc x }
 {
-    arcs::kept(rounded(x, arcs::arc_cosine))
+    let angle = arcs::arc_cosine(f32_to_f64_with_nan(x));
+    arcs::kept(narrowing::nearest(angle))
 }
 
 #[inline(always)]
 fn power(x: f32) -> f32
     ensures { result ≡ series_power x }
 {
-    rounded(x, powers::power)
+    narrowing::nearest(powers::power(x))
 }

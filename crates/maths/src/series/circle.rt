@@ -2,44 +2,54 @@ ghost use Rattle.std.specs.Prelude.{◌≡◌};
 ghost use Rattle.std.specs.Float.{binary64};
 ghost use Rattle.std.specs.Float.Ieee.{rem};
 ghost use Rattle.maths.specs.Wide.{◌⊗◌, wide};
-ghost use Rattle.maths.specs.Circle.{whole_turns, near_turned, far_turned, turned, near_sine, folded, wide_sine, wide_cosine, wide_tangent};
+ghost use Rattle.maths.specs.Circle.{near, whole_turns, near_turned, far_turned, turned, sine_of, wide_sine, wide_cosine, wide_tangent};
 
 use crate::series::polynomials::paired;
+use std::num::f32_to_f64_with_nan;
 
 /// The sine of `x` radians.
 #[inline(always)]
-pub(crate) fn sine(x: f64) -> f64
+pub(crate) fn sine(x: f32) -> f64
     ensures { result ≡ wide_sine x }
 {
-    folded(turned(x, 0.5))
+    sine_of(turned(x, 0.0))
 }
 
-/// The cosine of `x` radians.
+/// The cosine of `x` radians: the sine a quarter turn on.
 #[inline(always)]
-pub(crate) fn cosine(x: f64) -> f64
+pub(crate) fn cosine(x: f32) -> f64
     ensures { result ≡ wide_cosine x }
 {
-    folded(turned(x, 0.0))
+    sine_of(turned(x, -0.5))
 }
 
 /// The tangent of `x` radians.
 #[inline(always)]
-pub(crate) fn tangent(x: f64) -> f64
+pub(crate) fn tangent(x: f32) -> f64
     ensures { result ≡ wide_tangent x }
 {
     sine(x) / cosine(x)
 }
 
-// Half turns from the nearest whole turn, of `x` radians turned back by so many.
+// Half turns from the nearest whole turn, of `x` radians less so many half turns.
+#[tactic(auto, using(crate::proofs::Specials::near_is_number))]
 #[inline(always)]
-fn turned(x: f64, back: f64) -> f64
+fn turned(x: f32, back: f64) -> f64
     ensures { result ≡ turned x back }
 {
-    if x * x < 16384.0 {
-        near_turned(x, back)
+    if near(x) {
+        near_turned(x as f64, back)
     } else {
-        far_turned(x, back)
+        far_turned(f32_to_f64_with_nan(x), back)
     }
+}
+
+// Within 128, both ways.
+#[inline(always)]
+fn near(x: f32) -> bool
+    ensures { result ≡ near x }
+{
+    x * x < 16384.0
 }
 
 // By one product with 1/π.
@@ -101,31 +111,18 @@ fn rest_of_four(t: f64) -> f64
     }
 }
 
-// The cosine of at most one half turn, both ways, as the sine of what lacks to a quarter turn.
-#[inline(always)]
-fn folded(half_turns: f64) -> f64
-    ensures { result ≡ folded half_turns }
-{
-    let size = if half_turns < 0.0 {
-        -half_turns
-    } else {
-        half_turns
-    };
-    near_sine(0.5 - size)
-}
-
-const EVEN: [f64; 3] = [3.141592653523345, 2.5501632403134726, 0.08204647859053259];
+const EVEN: [f64; 3] = [3.1415926408695176, 0.5240348542921304, 0.00685621782730594];
 
 const ODD: [f64; 3] = [
-    -5.167712762115666,
-    -0.599251330057225,
-    -0.007022163117645056,
+    -2.0261192961610597,
+    -0.0751837231602356,
+    -0.000384373232899612,
 ];
 
-// The sine of at most a quarter turn, in half turns.
+// The sine of at most one half turn, both ways: its zeros are factors.
 #[inline(always)]
-fn near_sine(r: f64) -> f64
-    ensures { result ≡ near_sine r }
+fn sine_of(r: f64) -> f64
+    ensures { result ≡ sine_of r }
 {
-    r * paired(&EVEN, &ODD, r * r)
+    r * (1.0 - r) * (1.0 + r) * paired(&EVEN, &ODD, r * r)
 }

@@ -1,17 +1,26 @@
 ghost use Rattle.std.specs.Prelude.{◌≡◌};
-ghost use Rattle.maths.specs.Powers.{near_root, root, lean, positive_power, wide_power};
+ghost use Rattle.maths.specs.Powers.{near_root, root, lean, positive_power, improper_power, wide_power};
 
 use crate::series::polynomials::paired;
-use std::num::{f64_from_bits_with_nan, f64_to_bits_with_nan, nearest_u64_to_f64};
+use std::num::{f32_to_f64_with_nan, f64_from_bits_with_nan, f64_to_bits_with_nan};
 
-/// The power 0.3333333 of a widened `f32`. An infinity gives infinity, as in Rust.
+/// The power 0.3333333 of `x`. An infinity gives infinity, as in Rust.
 #[inline(always)]
-pub(crate) fn power(x: f64) -> f64
+pub(crate) fn power(x: f32) -> f64
     ensures { result ≡ wide_power x }
 {
-    if 0.0 < x && x < f64::INFINITY {
-        positive_power(x)
-    } else if f64::NEG_INFINITY < x && x < 0.0 {
+    if 0.0 < x && x < f32::INFINITY {
+        positive_power(x as f64)
+    } else {
+        improper_power(f32_to_f64_with_nan(x))
+    }
+}
+
+#[cold]
+fn improper_power(x: f64) -> f64
+    ensures { result ≡ improper_power x }
+{
+    if f64::NEG_INFINITY < x && x < 0.0 {
         f64::NAN
     } else {
         x * x
@@ -56,6 +65,6 @@ fn root(x: f64, near: f64) -> f64
 fn lean(x: f64) -> f64
     ensures { result ≡ lean x }
 {
-    let high = f64_to_bits_with_nan(x) / 0x1_0000_0000;
-    1.000014087751714 - nearest_u64_to_f64(high) * 1.3133618505585699e-14
+    let high = (f64_to_bits_with_nan(x) / 0x1_0000_0000) as u32;
+    1.000014087751714 - high as f64 * 1.3133618505585699e-14
 }
