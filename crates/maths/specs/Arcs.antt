@@ -1,15 +1,15 @@
 -- The steps by which a series host works out the arc cosine.
-use Rattle.std.specs.Prelude.{cond, [], ◌∷◌, from_bits, Float}
+use Rattle.std.specs.Prelude.{cond, from_bits, Float}
 use Rattle.std.specs.Float.Ieee.{lt, neg}
 use Rattle.std.specs.Float.{sqrt, nan, binary32, binary64}
 use Rattle.maths.specs.Functions.{in_range}
-use Rattle.maths.specs.Wide.{◌⊕◌, ◌⊖◌, ◌⊗◌, wide, paired}
+use Rattle.maths.specs.Wide.{◌⊕◌, ◌⊖◌, ◌⊗◌, wide, cubic, quadratic, sextic}
 
 -- the arc sine over the sine, by the sine's square
 abbrev pub arc_series : Float → Float
-arc_series z = paired
-    0x3ff0_0000_0011_7f17 (0x3fb3_3398_8d61_752c ∷ 0x3fa0_554d_b2d0_b040 ∷ 0x3fa3_65be_bfee_9d66 ∷ [])
-    0x3fc5_5554_848e_38eb (0x3fa6_c91b_bfc1_64b2 ∷ 0x3f8c_f525_bfd5_46f9 ∷ []) z
+arc_series z = sextic
+    (cubic (wide 0x3ff0_0000_0011_7f17) (wide 0x3fc5_5554_848e_38eb) (wide 0x3fb3_3398_8d61_752c) (wide 0x3fa6_c91b_bfc1_64b2) z)
+    (quadratic (wide 0x3fa0_554d_b2d0_b040) (wide 0x3f8c_f525_bfd5_46f9) (wide 0x3fa3_65be_bfee_9d66) z) z
 
 -- the arc sine of at most a half
 abbrev pub near_arc : Float → Float

@@ -1,8 +1,8 @@
 -- The steps by which a series host works out sine, cosine and tangent. Angles count in half turns.
-use Rattle.std.specs.Prelude.{ℕ, Bool, cond, [], ◌∷◌, from_bits, Float}
+use Rattle.std.specs.Prelude.{ℕ, Bool, cond, from_bits, Float}
 use Rattle.std.specs.Float.Ieee.{mul, rem, neg, lt}
 use Rattle.std.specs.Float.{binary32, binary64}
-use Rattle.maths.specs.Wide.{◌⊕◌, ◌⊖◌, ◌⊗◌, ◌⊘◌, wide, paired}
+use Rattle.maths.specs.Wide.{◌⊕◌, ◌⊖◌, ◌⊗◌, ◌⊘◌, wide, cubic, quadratic, sextic}
 
 -- the nearest even number
 abbrev pub whole_turns : Float → Float
@@ -38,11 +38,15 @@ near x = lt (mul binary32 x x) (from_bits binary32 0x4680_0000)
 abbrev pub turned : Float → Float → Float
 turned x back = cond (near x) (near_turned x back) (far_turned x back)
 
+-- the sine over r (1 - r²), by z = r²
+abbrev pub sine_series : Float → Float
+sine_series z = sextic
+    (cubic (wide 0x4009_21fb_5440_21c2) (neg (wide 0x4000_357e_769b_b232)) (wide 0x3fe0_c4f7_685c_0c99) (neg (wide 0x3fb3_4199_3fb5_e36f)) z)
+    (quadratic (wide 0x3f7c_5b09_d088_2c12) (neg (wide 0x3f3c_f022_0a24_f5fb)) (wide 0x3ef3_711c_cb5c_d2d6) z) z
+
 -- the sine of at most one half turn, both ways: its zeros are factors
 abbrev pub sine_of : Float → Float
-sine_of r = r ⊗ (wide 0x3ff0_0000_0000_0000 ⊖ r) ⊗ (wide 0x3ff0_0000_0000_0000 ⊕ r) ⊗ paired
-    0x4009_21fb_528f_1c5e (0x3fe0_c4e4_be24_c32d ∷ 0x3f7c_1543_f57b_01fc ∷ [])
-    0xc000_357e_0896_7348 (0xbfb3_3f3d_902a_2bb9 ∷ 0xbf39_30b6_76fa_9e2b ∷ []) (r ⊗ r)
+sine_of r = r ⊗ (wide 0x3ff0_0000_0000_0000 ⊖ r ⊗ r) ⊗ sine_series (r ⊗ r)
 
 abbrev pub wide_sine : Float → Float
 wide_sine x = sine_of (turned x (wide 0))

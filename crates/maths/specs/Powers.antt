@@ -1,18 +1,22 @@
 -- The steps by which a series host works out the power 0.3333333.
-use Rattle.std.specs.Prelude.{◌+◌, ◌/◌, cond, ◌&&◌, [], ◌∷◌, pos, to_bits, from_bits, Float}
-use Rattle.std.specs.Float.Ieee.{lt, of_int}
+use Rattle.std.specs.Prelude.{◌+◌, ◌/◌, cond, ◌&&◌, pos, to_bits, from_bits, Float}
+use Rattle.std.specs.Float.Ieee.{neg, lt, of_int}
 use Rattle.std.specs.Float.{binary32, binary64}
-use Rattle.maths.specs.Wide.{◌⊖◌, ◌⊗◌, ◌⊘◌, wide, paired}
+use Rattle.maths.specs.Wide.{◌⊖◌, ◌⊗◌, ◌⊘◌, wide, cubic, quadratic, sextic}
 
 -- about the cube root: a third of the bits has a third of the exponent
 abbrev pub near_root : Float → Float
 near_root x = wide (to_bits binary64 x / 3 + 0x2a9f_7123_0000_0000)
 
--- the cube root by a number y near it: y times the power -1/3 of y³ over x
+-- the power -1/3 of a number within a tenth of 1
+abbrev pub root_series : Float → Float
+root_series z = sextic
+    (cubic (wide 0x4000_e47d_6288_d0e1) (neg (wide 0x4009_7273_d402_9f95)) (wide 0x4012_3d8b_554b_5a5a) (neg (wide 0x4011_1246_d12f_88f5)) z)
+    (quadratic (wide 0x4003_bcc0_38ff_c1fa) (neg (wide 0x3fe9_b0d2_d299_9d6b)) (wide 0x3fbc_dc3c_9d12_e5f7) z) z
+
+-- the cube root by a number y near it
 abbrev pub root : Float → Float → Float
-root x y = y ⊗ paired
-    0x4000_e47d_6288_d0e1 (0x4012_3d8b_554b_5a5a ∷ 0x4003_bcc0_38ff_c1fa ∷ 0x3fbc_dc3c_9d12_e5f7 ∷ [])
-    0xc009_7273_d402_9f95 (0xc011_1246_d12f_88f5 ∷ 0xbfe9_b0d2_d299_9d6b ∷ []) (y ⊗ y ⊗ (y ⊘ x))
+root x y = y ⊗ root_series (y ⊗ y ⊗ (y ⊘ x))
 
 -- the power by which 0.3333333 lies below a third, by a rough logarithm
 abbrev pub lean : Float → Float

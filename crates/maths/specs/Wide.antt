@@ -1,7 +1,5 @@
 -- Sums, products and polynomials of f64.
-use Rattle.std.specs.Prelude.{ℕ, List, [], ◌∷◌, reverse, from_bits, Float}
-use Rattle.std.specs.List.{reduce}
-use Rattle.std.specs.Option.{unwrap_or}
+use Rattle.std.specs.Prelude.{ℕ, from_bits, Float}
 use Rattle.std.specs.Float.{binary64}
 use Rattle.std.specs.Float.Ieee.{add, sub, mul, div}
 
@@ -25,15 +23,14 @@ x ⊘ y = div binary64 x y
 abbrev pub wide : ℕ → Float
 wide b = from_bits binary64 b
 
--- c₀ + z (c₁ + z (c₂ + ..)), with the coefficients by their bits
-abbrev pub polynomial : ℕ → List ℕ → Float → Float
-polynomial c [] z = wide c
-polynomial c (d ∷ ds) z = wide c ⊕ z ⊗ polynomial d ds z
+-- a + b z + c z² + d z³
+abbrev pub cubic : Float → Float → Float → Float → Float → Float
+cubic a b c d z = a ⊕ z ⊗ b ⊕ z ⊗ z ⊗ (c ⊕ z ⊗ d)
 
--- c₀ + z d₀ + z² c₁ + z³ d₁ + .., the even powers and the odd ones apart
-abbrev pub paired : ℕ → List ℕ → ℕ → List ℕ → Float → Float
-paired c cs d ds z = polynomial c cs (z ⊗ z) ⊕ z ⊗ polynomial d ds (z ⊗ z)
+-- a + b z + c z²
+abbrev pub quadratic : Float → Float → Float → Float → Float
+quadratic a b c z = a ⊕ z ⊗ b ⊕ z ⊗ z ⊗ c
 
--- steps by coefficients, from the last one to the first
-abbrev pub nested : (Float → Float → Float) → List Float → Float
-nested step cs = unwrap_or (reduce step (reverse cs)) (wide 0)
+-- seven terms, by the first four and by the last three over z⁴
+abbrev pub sextic : Float → Float → Float → Float
+sextic first last z = first ⊕ z ⊗ z ⊗ (z ⊗ z) ⊗ last

@@ -2,7 +2,7 @@ ghost use Rattle.std.specs.Prelude.{◌≡◌};
 ghost use Rattle.maths.specs.Arcs.{arc_series, near_arc, end_arc, wide_arc, kept};
 
 use crate::host::{HALF_TURN, in_range, not_a_number};
-use crate::series::polynomials::paired;
+use crate::series::polynomials::{cubic, quadratic, sextic};
 
 /// The arc cosine; NaN past -1 and 1, where a root of a negative number is taken.
 #[inline(always)]
@@ -35,25 +35,25 @@ fn near_arc(x: f64) -> f64
     x * arc_series(x * x)
 }
 
-const EVEN: [f64; 4] = [
-    1.0000000002546068,
-    0.07500604106595138,
-    0.03190081413080792,
-    0.037885628632745846,
-];
-
-const ODD: [f64; 3] = [
-    0.1666665694469381,
-    0.044503085286757296,
-    0.01413945666959958,
-];
-
 // The arc sine over the sine, by the sine's square.
 #[inline(always)]
 fn arc_series(z: f64) -> f64
     ensures { result ≡ arc_series z }
 {
-    paired(&EVEN, &ODD, z)
+    let first = cubic(
+        1.0000000002546068,
+        0.1666665694469381,
+        0.07500604106595138,
+        0.044503085286757296,
+        z,
+    );
+    let last = quadratic(
+        0.03190081413080792,
+        0.01413945666959958,
+        0.037885628632745846,
+        z,
+    );
+    sextic(first, last, z)
 }
 
 /// An angle within its range, or the end of the range that it passes; NaN stays NaN. Its first test is

@@ -2,9 +2,9 @@ ghost use Rattle.std.specs.Prelude.{◌≡◌};
 ghost use Rattle.std.specs.Float.{binary64};
 ghost use Rattle.std.specs.Float.Ieee.{rem};
 ghost use Rattle.maths.specs.Wide.{◌⊗◌, wide};
-ghost use Rattle.maths.specs.Circle.{near, whole_turns, near_turned, far_turned, turned, sine_of, wide_sine, wide_cosine, wide_tangent};
+ghost use Rattle.maths.specs.Circle.{near, whole_turns, near_turned, far_turned, turned, sine_series, sine_of, wide_sine, wide_cosine, wide_tangent};
 
-use crate::series::polynomials::paired;
+use crate::series::polynomials::{cubic, quadratic, sextic};
 use std::num::f32_to_f64_with_nan;
 
 /// The sine of `x` radians.
@@ -111,18 +111,31 @@ fn rest_of_four(t: f64) -> f64
     }
 }
 
-const EVEN: [f64; 3] = [3.1415926408695176, 0.5240348542921304, 0.00685621782730594];
-
-const ODD: [f64; 3] = [
-    -2.0261192961610597,
-    -0.0751837231602356,
-    -0.000384373232899612,
-];
-
 // The sine of at most one half turn, both ways: its zeros are factors.
 #[inline(always)]
 fn sine_of(r: f64) -> f64
     ensures { result ≡ sine_of r }
 {
-    r * (1.0 - r) * (1.0 + r) * paired(&EVEN, &ODD, r * r)
+    r * (1.0 - r * r) * sine_series(r * r)
+}
+
+// The sine over r (1 - r^2), by z = r^2.
+#[inline(always)]
+fn sine_series(z: f64) -> f64
+    ensures { result ≡ sine_series z }
+{
+    let first = cubic(
+        3.141592653472089,
+        -2.026120115877597,
+        0.5240437544129178,
+        -0.07521970563347023,
+        z,
+    );
+    let last = quadratic(
+        0.006922758424944513,
+        -0.00044155913396423636,
+        1.8541188828896344e-05,
+        z,
+    );
+    sextic(first, last, z)
 }

@@ -1,21 +1,28 @@
 ghost use Rattle.std.specs.Prelude.{◌≡◌};
-ghost use Rattle.maths.specs.Wide.{◌⊕◌, ◌⊗◌, nested};
+ghost use Rattle.maths.specs.Wide.{cubic, quadratic, sextic};
 
-/// A polynomial by its coefficients of even powers of `z` and those of odd ones: two rows of steps that
-/// a machine can take side by side.
+// The order of the sums lets a machine work out much of them side by side.
+
+/// a + b z + c z^2 + d z^3.
 #[inline(always)]
-pub(crate) fn paired(even: &[f64], odd: &[f64], z: f64) -> f64
-    ensures { result ≡ nested (λ y c. c ⊕ z ⊗ z ⊗ y) even.now ⊕ z ⊗ nested (λ y c. c ⊕ z ⊗ z ⊗ y) odd.now }
+pub(crate) fn cubic(a: f64, b: f64, c: f64, d: f64, z: f64) -> f64
+    ensures { result ≡ cubic a b c d z }
 {
-    let square = z * z;
-    polynomial(even, square) + z * polynomial(odd, square)
+    a + z * b + z * z * (c + z * d)
 }
 
-// c0 + z (c1 + z (c2 + ..)).
+/// a + b z + c z^2.
 #[inline(always)]
-fn polynomial(coefficients: &[f64], z: f64) -> f64
-    ensures { result ≡ nested (λ y c. c ⊕ z ⊗ y) coefficients.now }
+pub(crate) fn quadratic(a: f64, b: f64, c: f64, z: f64) -> f64
+    ensures { result ≡ quadratic a b c z }
 {
-    let value = coefficients.iter().rev().copied().reduce(|y, c| c + z * y);
-    value.unwrap_or(0.0)
+    a + z * b + z * z * c
+}
+
+/// A polynomial with seven terms, by the first four of them and by the last three over z^4.
+#[inline(always)]
+pub(crate) fn sextic(first: f64, last: f64, z: f64) -> f64
+    ensures { result ≡ sextic first last z }
+{
+    first + z * z * (z * z) * last
 }
