@@ -1,5 +1,5 @@
 -- Of a list's places only how many there are matters to what is read into them, and where they are more than the bytes not even that; nothing of where the bytes lie.
-use Rattle.std.proofs.Common.{◌≡◌, ℕ, zero, suc, ◌+◌, ◌<◌, ◌≤◌, arith, ◌&&◌, Bool, true, false, List, [], ◌∷◌, ◌++◌, length, drop, Some, None, Ok, Err, Option, Result, nat_lt, sym, refl, ap, ap₂, ◌∙◌, subst, length-set, take}
+use Rattle.std.proofs.Common.{◌≡◌, ℕ, zero, suc, ◌+◌, ◌<◌, ◌≤◌, arith, ◌&&◌, Bool, true, false, List, [], ◌∷◌, ◌++◌, length, drop, Some, None, Ok, Err, Option, Result, nat_lt, sym, refl, ap, ap₂, ◌∙◌, subst, length-set}
 use Rattle.std.proofs.lemmas.List.{take_more_set, length-replicate}
 use Rattle.std.proofs.lemmas.Bool.{and_parts, ltb-true, lt-ltb}
 use Rattle.std.specs.Borrow.{Bor}
@@ -19,7 +19,7 @@ use Rattle.job.specs.declared.reader.JobReader.{JobReader}
 use Rattle.job.specs.declared.whole.Job.{Job}
 use Rattle.job.specs.Readers.{start, left, moved, refusal}
 use Rattle.job.specs.Jobs.{empty_job, styled, commands_of, dashes_of, has_place, takes, pushed_all, takes_item, with_item}
-use Rattle.job.specs.Sayings.{Said, said, places, said_by, AsMany}
+use Rattle.job.specs.Sayings.{said, places, said_by, AsMany}
 use Rattle.job.specs.Whole.{Outcome, step, step_by, store_by, then, reading, whole}
 
 -- ---- lists

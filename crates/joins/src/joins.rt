@@ -41,7 +41,6 @@ fn split_corner(turn: Turn) -> Corner
 }
 
 #[inline(always)]
-
 fn shape<K: MathsHost>(corner: Corner, nib: Nib, turn: Turn, host: &mut K) -> Few
     ensures answer { result.items ≡ shaped (K.functions host.old) corner nib turn }
     ensures host { host.new ≡ all_asked K.asked host.old (shaped_questions (K.functions host.old) corner nib turn) }

@@ -78,7 +78,6 @@ fn bent(n: Vector, m: Vector, radius: f32) -> Vector
 }
 
 #[inline(always)]
-
 fn offset_curve(id: SegmentId, c: Curve, radius: f32) -> OffsetSegment
     ensures { result ≡ offset_curve id c radius }
 {

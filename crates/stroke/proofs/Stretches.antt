@@ -13,7 +13,7 @@ use Rattle.numbers.specs.Arithmetic.{zero as zero_f, one}
 use Rattle.segments.specs.declared.segment.Segment.{Segment}
 use Rattle.segments.specs.Pieces.{segment_slice}
 use Rattle.stroke.specs.Ranges.{sliced, stretch, pieces, dash_dot, is_dot, stretch_outline, range_outline}
-use Rattle.stroke.proofs.Walking.{found_none}
+use Rattle.dashes.proofs.Reaching.{found_none}
 
 pub length_sliced : (t0 t1 : Float) (ys : List Segment) → length (sliced t0 t1 ys) ≡ length ys
 unfolding sliced

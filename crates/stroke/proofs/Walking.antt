@@ -1,5 +1,5 @@
 -- The sides of a run, one after the other.
-use Rattle.std.proofs.Common.{◌≡◌, ℕ, zero, suc, ◌+◌, ◌-◌, ◌<◌, ◌≤◌, List, [], ◌∷◌, ◌++◌, Bool, map, reverse, length, take, drop, true, false, is_err, IfOk, Some, None, Ok, Err, Option, Result, sym, refl, ap, ◌∙◌, append_assoc, add-one, arith, drop_of_length-le}
+use Rattle.std.proofs.Common.{◌≡◌, ℕ, ◌+◌, ◌-◌, ◌<◌, ◌≤◌, List, [], ◌∷◌, ◌++◌, Bool, map, reverse, length, take, drop, true, false, is_err, IfOk, Some, None, Ok, Err, Option, Result, sym, refl, ap, ◌∙◌, append_assoc, add-one, arith, drop_of_length-le}
 use mathlib.Core.List.{reverse-append}
 use Rattle.std.specs.List.{slice_get}
 use Rattle.std.proofs.Math.Seq.{drop-cons, take-suc}
@@ -70,12 +70,6 @@ there_none false F nib o none = forward_none F nib o none
 pub refused_made : {X Y : Type 0} (P : X → Type 0) (r : Result X Y) → is_err r ≡ true → IfOk r P
 refused_made P (Ok x) wrong = absurd (let z : ◌≡◌ {A = ℕ} 0 1 = cc in omega arith)
 refused_made P (Err y) refused = tt
-
--- where nothing was found the list has ended
-pub found_none : {X : Type 0} (xs : List X) (i : ℕ) {found : Option X} → found ≡ slice_get xs i → found ≡ None → length xs ≤ i
-found_none [] i there is = omega arith
-found_none (y ∷ ys) zero there is = absurd (let z : ◌≡◌ {A = ℕ} 0 1 = cc in omega arith)
-found_none (y ∷ ys) (suc i) there is = omega (arith, found_none ys i there is)
 
 -- the first segment of a row and the last are where its sides begin and end
 last_at : (x : Segment) (xs : List Segment) → slice_get (x ∷ xs) (length xs) ≡ Some (last_of x xs)

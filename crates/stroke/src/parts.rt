@@ -38,7 +38,6 @@ impl<'a, S: Sink, K: MathsHost> Outliner<'a, S, K> {
     }
 
     #[inline(always)]
-
     pub(crate) fn split_join(&mut self, o: OffsetSegment, p: OffsetSegment) -> Result<(), Refused>
         requires { Fits self.old (split_events (K.functions self.old.host.now) self.old.nib (turn_between o p)) }
         ensures { Drew S.meaning S.took K.asked self.old self.new (split_events (K.functions self.old.host.now) self.old.nib (turn_between o p)) (is_ok result) }

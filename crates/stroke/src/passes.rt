@@ -15,6 +15,7 @@ fn same_command(o: OffsetSegment, p: OffsetSegment) -> bool
     p.id == o.id
 }
 
+// Compiled in place by hints, here and elsewhere: a side is 80 bytes, and each call would copy it.
 impl<'a, S: Sink, K: MathsHost> Outliner<'a, S, K> {
     // A join and the side after it.
     #[inline(always)]

@@ -12,7 +12,6 @@ use segments::segment::Segment;
 use sinks::sink::{Refused, Sink};
 
 #[inline(always)]
-
 pub(crate) fn side(nib: Nib, segment: Segment) -> OffsetSegment
     ensures { result ≡ side nib segment }
 {
@@ -20,7 +19,6 @@ pub(crate) fn side(nib: Nib, segment: Segment) -> OffsetSegment
 }
 
 #[inline(always)]
-
 pub(crate) fn other_side(nib: Nib, segment: Segment) -> OffsetSegment
     ensures { result ≡ other_side nib segment }
 {

@@ -3,7 +3,8 @@ use Rattle.maths.specs.Functions.{Functions}
 use Rattle.pen.specs.declared.nib.Nib.{Nib}
 use Rattle.stroke.specs.Outlines.{backward, one_back, other_side, last_side}
 use Rattle.stroke.proofs.Drawn.{starts, passes_on, ends_refused, ends_there, next_fits}
-use Rattle.stroke.proofs.Walking.{sides_back, backward_next, none_back, backward_none, refused_made, found_none}
+use Rattle.stroke.proofs.Walking.{sides_back, backward_next, none_back, backward_none, refused_made}
+use Rattle.dashes.proofs.Reaching.{found_none}
 use Rattle.stroke.proofs.outliner.Outliner.walk_back.Goals as goal
 
 pub loop-i-init : goal.loop-i-init

@@ -4,7 +4,8 @@ use Rattle.pen.specs.declared.nib.Nib.{Nib}
 use Rattle.stroke.specs.Outlines.{side, last_side}
 use Rattle.stroke.specs.Rings.{one_there, there}
 use Rattle.stroke.proofs.Drawn.{starts, passes_on, ends_refused, ends_there, next_fits}
-use Rattle.stroke.proofs.Walking.{sides_left, there_next, sides_none, there_none, refused_made, found_none}
+use Rattle.stroke.proofs.Walking.{sides_left, there_next, sides_none, there_none, refused_made}
+use Rattle.dashes.proofs.Reaching.{found_none}
 use Rattle.stroke.proofs.outliner.Outliner.walk_there.Goals as goal
 use Rattle.stroke.proofs.outliner.Outliner.walk_there.Goals.{in-Some+in_ok-go_there, in_default}
 
