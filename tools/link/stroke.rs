@@ -64,54 +64,43 @@ fn stroked(bytes: &[u8], answer: Answer) -> Stroked<'_> {
     Stroked { bytes: &bytes[..answer.length as usize], sent: answer.sent, ended }
 }
 
-/// With the library's own maths and a storage of 128 segments.
-pub fn stroke<'a>(job: &[u8], bytes: &'a mut [u8]) -> Stroked<'a> {
+type BySeries = unsafe extern "C" fn(*const u8, usize, *mut u8, usize, *mut Answer);
+
+type ByRows = unsafe extern "C" fn(*const u8, usize, *const u8, usize, *mut u8, usize, *mut Answer);
+
+// By one of the library's two functions of this type.
+fn by_series<'a>(call: BySeries, job: &[u8], bytes: &'a mut [u8]) -> Stroked<'a> {
     let mut answer = Answer::default();
     // SAFETY: each pointer comes from a slice or a reference, with its length.
-    unsafe { stroke_job(job.as_ptr(), job.len(), bytes.as_mut_ptr(), bytes.len(), &mut answer) };
+    unsafe { call(job.as_ptr(), job.len(), bytes.as_mut_ptr(), bytes.len(), &mut answer) };
     stroked(bytes, answer)
+}
+
+// Likewise.
+fn by_rows<'a>(call: ByRows, rows: &[u8], job: &[u8], bytes: &'a mut [u8]) -> Stroked<'a> {
+    let mut answer = Answer::default();
+    let (rows, rows_length) = (rows.as_ptr(), rows.len());
+    // SAFETY: as above.
+    unsafe { call(rows, rows_length, job.as_ptr(), job.len(), bytes.as_mut_ptr(), bytes.len(), &mut answer) };
+    stroked(bytes, answer)
+}
+
+/// With the library's own maths and a storage of 128 segments.
+pub fn stroke<'a>(job: &[u8], bytes: &'a mut [u8]) -> Stroked<'a> {
+    by_series(stroke_job, job, bytes)
 }
 
 /// With the library's own maths and a storage of 4,096 segments.
 pub fn stroke_long<'a>(job: &[u8], bytes: &'a mut [u8]) -> Stroked<'a> {
-    let mut answer = Answer::default();
-    // SAFETY: as above.
-    unsafe { stroke_job_long(job.as_ptr(), job.len(), bytes.as_mut_ptr(), bytes.len(), &mut answer) };
-    stroked(bytes, answer)
+    by_series(stroke_job_long, job, bytes)
 }
 
 /// By rows of nine bytes as the maths, with a storage of 128 segments.
 pub fn stroke_by_rows<'a>(rows: &[u8], job: &[u8], bytes: &'a mut [u8]) -> Stroked<'a> {
-    let mut answer = Answer::default();
-    // SAFETY: as above.
-    unsafe {
-        stroke_job_by_rows(
-            rows.as_ptr(),
-            rows.len(),
-            job.as_ptr(),
-            job.len(),
-            bytes.as_mut_ptr(),
-            bytes.len(),
-            &mut answer,
-        )
-    };
-    stroked(bytes, answer)
+    by_rows(stroke_job_by_rows, rows, job, bytes)
 }
 
 /// By rows of nine bytes as the maths, with a storage of 4,096 segments.
 pub fn stroke_long_by_rows<'a>(rows: &[u8], job: &[u8], bytes: &'a mut [u8]) -> Stroked<'a> {
-    let mut answer = Answer::default();
-    // SAFETY: as above.
-    unsafe {
-        stroke_job_long_by_rows(
-            rows.as_ptr(),
-            rows.len(),
-            job.as_ptr(),
-            job.len(),
-            bytes.as_mut_ptr(),
-            bytes.len(),
-            &mut answer,
-        )
-    };
-    stroked(bytes, answer)
+    by_rows(stroke_job_long_by_rows, rows, job, bytes)
 }
