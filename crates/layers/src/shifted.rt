@@ -51,11 +51,10 @@ fn shift(by: Vector, c: Command) -> Command
 }
 
 impl<S: Sink> Sink for Shifted<S> {
-    ghost acts = {
-        record {
-            meaning = λ s. shifted s.by (S.acts.meaning s.inner);
-            took = λ s c. record { inner = S.acts.took s.inner (moved s.by c); by = s.by };
-        } };
+    ghost acts = { record {
+      meaning = λ s. shifted s.by (S.acts.meaning s.inner);
+      took = λ s c. record { inner = S.acts.took s.inner (moved s.by c); by = s.by };
+    } };
 
     ghost kept = { λ s c. S.kept s.inner (moved s.by c) ∙ kind_moved s.by c };
 
