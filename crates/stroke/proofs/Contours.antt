@@ -28,8 +28,8 @@ use Rattle.joins.specs.Joins.{shaped, shaped_questions, split_corner, half_circl
 use Rattle.joins.specs.Caps.{cap_commands, cap_questions}
 use Rattle.segments.specs.Lists.{Each, each_append}
 use Rattle.stroke.specs.Events.{Event, asks, sends, asked_then_sent}
-use Rattle.stroke.specs.Outlines.{turn_between, emitted, join_events, split_events, cap_events, forward, one_forward, back_events, backward, side, sides, other_sides, last_side, end_cap_events, cross_events, start_cap_events, finish_events, open_ring, closed_ring, dash_ring, ring_of, around, across, has_cap}
-use Rattle.stroke.specs.Ranges.{stretch, pieces, dot_slice, dot_around, dash_dot, stretch_outline, is_dot, range_outline}
+use Rattle.stroke.specs.Outlines.{turn_between, emitted, join_events, split_events, cap_events, forward, one_forward, back_events, backward, last_side, end_cap_events, cross_events, start_cap_events, finish_events, open_ring, closed_ring, dash_ring, ring_of, across}
+use Rattle.stroke.specs.Ranges.{dot_around}
 use Rattle.stroke.specs.Contours.{row, Closing, Contour}
 
 pub row_append : (es fs : List Event) → row (es ++ fs) ≡ row es ++ row fs

@@ -1,5 +1,5 @@
 -- A whole stroke: what drawing a path does, in order, by its commands, style, dashes and five functions alone.
-use Rattle.std.specs.Prelude.{ℕ, suc, ◌+◌, ◌-◌, ℤ, pos, negsuc, Bool, true, false, List, [], ◌∷◌, ◌++◌, map, flat_map, length, Some, None, Option, Float}
+use Rattle.std.specs.Prelude.{ℕ, Bool, true, false, List, [], ◌∷◌, ◌++◌, map, flat_map, length, Some, None, Option, Float}
 use Rattle.maths.specs.Functions.{Functions}
 use Rattle.path.specs.declared.command.Command.{Command}
 use Rattle.path.specs.declared.style.Stroke.{Stroke}
@@ -10,9 +10,7 @@ use Rattle.cursor.specs.Drawings as drawings
 use Rattle.pen.specs.declared.nib.Nib.{Nib}
 use Rattle.pen.specs.Nibs.{nib_of}
 use Rattle.dashes.specs.declared.dasher.Range.{Range}
-use Rattle.dashes.specs.Dashers.{begun, seeks}
 use Rattle.dashes.specs.Patterns.{Dashes, pattern_of}
-use Rattle.dashes.specs.StepCounts.{most_steps}
 use Rattle.dashes.specs.Walks.{DashEvent, seeking}
 use Rattle.dashes.specs.Walks as walks
 use Rattle.stroke.specs.Events.{Event, asks}
