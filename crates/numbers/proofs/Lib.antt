@@ -1,4 +1,5 @@
 pub mod Orders
+pub mod Patterns
 pub mod Rooted
 pub mod Scales
 pub mod Squares
