@@ -23,7 +23,8 @@ use Rattle.dashes.specs.StepCounts.{most_steps}
 use Rattle.dashes.specs.Walks.{DashEvent, walking, seeking, dash_walk}
 use Rattle.dashes.specs.Walks as walks
 use Rattle.stroke.specs.declared.stroker.Stroker.{Stroker}
-use Rattle.stroke.specs.Calls.{Action, steps, works_out, dash_of, dash_actions, walk_along, twice_place, run_actions}
+use Rattle.stroke.specs.Calls.{Action, steps, works_out, dash_actions, run_actions}
+use Rattle.stroke.specs.Runs.{dash_of, twice_place}
 use Rattle.stroke.specs.Ranges.{range_outline}
 use Rattle.stroke.specs.Outcomes.{Stage, perform}
 use Rattle.stroke.specs.Strokers.{FitsAll, stage_of, Performed}
@@ -34,7 +35,7 @@ pub dash_by : (F : Functions) (nib : Nib) (xs : List Segment) (r : Range) {len f
 dash_by F nib xs r long from to = (λ i. range_outline F nib xs (from i) (to i) r.t0 r.t1) ∙ ap (λ n. range_outline F nib xs (twice_place n r.start) (twice_place n r.end) r.t0 r.t1) long
 
 -- a run that is not empty
-pub dashed_run : (F : Functions) (nib : Nib) (p : Dashes) (closed : Bool) (xs : List Segment) → 0 < length xs → run_actions F nib (Some p) closed xs ≡ flat_map (dash_actions F nib xs) (walk_along p closed xs)
+pub dashed_run : (F : Functions) (nib : Nib) (p : Dashes) (closed : Bool) (xs : List Segment) → 0 < length xs → run_actions F nib (Some p) closed xs ≡ flat_map (dash_actions F nib xs) (seeking most_steps p xs (seeks p (begun p closed)) (begun p closed))
 dashed_run F nib p closed [] some = absurd (omega (arith, some))
 dashed_run F nib p closed (x ∷ xs) some = refl
 

@@ -1,7 +1,7 @@
-ghost use Rattle.std.specs.Prelude.{◌≡◌, ◌≤◌, ◌∷◌, List, length};
+ghost use Rattle.std.specs.Prelude.{◌≡◌, ◌≤◌, ◌∷◌, List, length, take};
 ghost use Rattle.dashes.specs.StepCounts.{most_steps};
 ghost use Rattle.stroke.specs.Calls.{stroke_actions};
-ghost use Rattle.stroke.specs.Histories.{Call, call, History, Lawful, Promised, empty_held, stroked_held, held_by};
+ghost use Rattle.stroke.specs.Histories.{Call, call, History, Lawful, Promised, after_taking, count, empty_held, held_by, row_of, stroked_held};
 ghost use Rattle.stroke.specs.Outcomes.{stroked, outcome, perform, at_start, answer_of};
 ghost use Rattle.stroke.specs.Strokers.{stop_of};
 
@@ -39,6 +39,7 @@ pub fn stroke_with_storage<S: Sink, B: Storage, K: MathsHost>(
     ensures whole { record { answer = result; sink = sink.new; storage = storage.new; host = host.new } ≡ stroked S.meaning S.took B.held B.capacity B.cleared B.pushed K.asked budget (K.functions host.old) commands.now style dashes.now sink.old storage.old host.old }
     ensures functions { K.functions host.new ≡ K.functions host.old }
     ensures promised { Promised (call commands.now style dashes.now (K.functions host.old) (B.capacity storage.old) budget result) (S.meaning sink.old) (S.meaning sink.new) }
+    ensures took { sink.new ≡ after_taking S.took (take (count result) (row_of (call commands.now style dashes.now (K.functions host.old) (B.capacity storage.old) budget result))) sink.old }
     ensures lawful { (earlier : List Call) → History earlier (S.meaning sink.old) → Lawful (call commands.now style dashes.now (K.functions host.old) (B.capacity storage.old) budget result ∷ earlier) (S.meaning sink.new) }
 {
     stroke_lawfully(commands, style, dashes, budget, sink, storage, host)
@@ -56,6 +57,7 @@ pub fn stroke_into<S: Sink, K: MathsHost>(
     ensures whole { let o = stroked_held S.meaning S.took K.asked budget (K.functions host.old) commands.now style dashes.now sink.old (empty_held 128) host.old in (result ≡ o.answer) × (sink.new ≡ o.sink) × (host.new ≡ o.host) }
     ensures functions { K.functions host.new ≡ K.functions host.old }
     ensures promised { Promised (call commands.now style dashes.now (K.functions host.old) 128 budget result) (S.meaning sink.old) (S.meaning sink.new) }
+    ensures took { sink.new ≡ after_taking S.took (take (count result) (row_of (call commands.now style dashes.now (K.functions host.old) 128 budget result))) sink.old }
     ensures lawful { (earlier : List Call) → History earlier (S.meaning sink.old) → Lawful (call commands.now style dashes.now (K.functions host.old) 128 budget result ∷ earlier) (S.meaning sink.new) }
 {
     let mut storage = Storage128::new();
@@ -77,6 +79,7 @@ fn stroke_lawfully<S: Sink, B: Storage, K: MathsHost>(
     ensures functions { K.functions host.new ≡ K.functions host.old }
     ensures seen { let o = stroked_held S.meaning S.took K.asked budget (K.functions host.old) commands.now style dashes.now sink.old (held_by B.held B.capacity storage.old) host.old in (result ≡ o.answer) × (sink.new ≡ o.sink) × (host.new ≡ o.host) }
     ensures promised { Promised (call commands.now style dashes.now (K.functions host.old) (B.capacity storage.old) budget result) (S.meaning sink.old) (S.meaning sink.new) }
+    ensures took { sink.new ≡ after_taking S.took (take (count result) (row_of (call commands.now style dashes.now (K.functions host.old) (B.capacity storage.old) budget result))) sink.old }
     ensures lawful { (earlier : List Call) → History earlier (S.meaning sink.old) → Lawful (call commands.now style dashes.now (K.functions host.old) (B.capacity storage.old) budget result ∷ earlier) (S.meaning sink.new) }
 {
     admit_and_draw(commands, style, dashes, budget, sink, storage, host)

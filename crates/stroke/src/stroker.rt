@@ -5,10 +5,11 @@ ghost use Rattle.cursor.specs.Giving.{left};
 ghost use Rattle.dashes.specs.PatternValues.{values};
 ghost use Rattle.dashes.specs.StepCounts.{most_steps, none_taken};
 ghost use Rattle.dashes.specs.Walks.{Within, emits};
-ghost use Rattle.stroke.specs.Calls.{clears, ends, draws, steps as one_step, twice_place, dash_actions, run_actions, run_by_run};
+ghost use Rattle.stroke.specs.Calls.{clears, ends, draws, steps as one_step, dash_actions, run_actions, run_by_run};
 ghost use Rattle.stroke.specs.Collecting.{collected, gather};
 ghost use Rattle.stroke.specs.Outcomes.{why_not};
 ghost use Rattle.stroke.specs.Outlines.{outline};
+ghost use Rattle.stroke.specs.Runs.{twice_place};
 ghost use Rattle.stroke.specs.Strokers.{FitsAll, Performed, stop_of, Undrawn, taken_in};
 
 use crate::collect::collect;

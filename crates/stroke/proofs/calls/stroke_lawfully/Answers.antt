@@ -1,3 +1,4 @@
+use Rattle.stroke.proofs.Added.{took_by}
 use Rattle.stroke.proofs.Calling.{functions_kept}
 use Rattle.stroke.proofs.Lawfully.{law_of_call}
 use Rattle.stroke.proofs.Seen.{whole_held, promised_by}
@@ -22,6 +23,11 @@ returns-clause-promised g c = let b = g.met.B.Storage in
     (record { empties = b.empties; same_cleared = b.same_cleared; grows = b.grows; same_pushed = b.same_pushed })
     c.args.budget (g.K.MathsHost.functions c.args.host.now) c.args.commands.now c.args.style c.args.dashes.now c.args.sink.now c.args.storage.now c.args.host.now
     g.met.S.Sink.grows c.admit_and_draw.ensures (g.met.K.MathsHost.narrow c.args.host.now)
+
+pub returns-clause-took : goal.returns-clause-took
+returns-clause-took g c =
+    took_by g.S.Sink.meaning g.S.Sink.took g.B.Storage.held g.B.Storage.capacity g.B.Storage.cleared g.B.Storage.pushed g.K.MathsHost.asked
+    c.args.budget (g.K.MathsHost.functions c.args.host.now) c.args.commands.now c.args.style c.args.dashes.now c.args.sink.now c.args.storage.now c.args.host.now c.admit_and_draw.ensures
 
 pub returns-clause-lawful : goal.returns-clause-lawful
 returns-clause-lawful g c = let b = g.met.B.Storage in

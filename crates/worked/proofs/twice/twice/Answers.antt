@@ -15,4 +15,4 @@ returns-clause-alike g c empty one two =
     let alike : Alike F G = λ f x h. ap (λ (H : Functions). apply H f x) (sym c.stroke_into-first.ensures.functions) in
     (law.alike [] first (record { one = record { later = second ∷ []; among = refl }; ok = one })
     (second ∷ (first ∷ [])) (g.S.Sink.meaning c.stroke_into-second.new.sink) law.history (first ∷ []) second (record { one = record { later = []; among = refl }; ok = two })
-    refl refl refl alike).answer
+    (record { commands = refl; style = refl; dashes = refl; functions = alike })).answer

@@ -1,7 +1,8 @@
 use Rattle.std.proofs.Common.{rules, w64, length, refl, ap, ◌∙◌, arith}
 use Rattle.std.proofs.lemmas.List.{length-map}
 use Rattle.std.proofs.lemmas.Int.{to_z-of_z}
-use Rattle.stroke.specs.Calls.{draws, dash_of, twice_place}
+use Rattle.stroke.specs.Calls.{draws}
+use Rattle.stroke.specs.Runs.{dash_of, twice_place}
 use Rattle.stroke.proofs.Drawn.{drew_by}
 use Rattle.stroke.proofs.Performing.{lent_performed}
 use Rattle.stroke.proofs.Dashing.{dash_by, worked_out}
