@@ -4,3 +4,5 @@ pub mod Rooted
 pub mod Scales
 pub mod Squares
 pub mod Wholes
+pub mod Differences
+pub mod Quotients
