@@ -1,3 +1,4 @@
 pub mod Curves
 pub mod Centres
 pub mod Sweeps
+pub mod Chords

@@ -38,7 +38,7 @@ pub struct Centred {
 
 // The power of two that brings a length into the range from 1 to 2, or near it at the ends of
 // the range of f32; 1 for what is no finite number.
-fn factor(length: f32) -> f32
+pub(crate) fn factor(length: f32) -> f32
     ensures { result ≡ factor length }
 {
     let exponent = f32_to_bits_with_nan(length) / 0x80_0000 % 256;

@@ -4,7 +4,9 @@
 
 pub mod arc_to;
 pub mod centre;
+pub mod chord;
 pub mod ellipse;
 pub mod few;
+pub mod frame;
 pub mod radii;
 pub mod sweep;
