@@ -1,2 +1,3 @@
+mod Reached
 mod Round
 pub mod Quarters

@@ -2,3 +2,5 @@ pub mod Curves
 pub mod Centres
 pub mod Sweeps
 pub mod Chords
+pub mod Ends
+pub mod Laws

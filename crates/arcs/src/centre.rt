@@ -62,13 +62,13 @@ pub(crate) fn larger(a: f32, b: f32) -> f32
 // Half of the way from the end of an arc back to its start, along the axes of the ellipse, with the
 // radii.
 #[derive(Clone, Copy)]
-struct Chord {
-    half: Vector,
-    radii: Radii,
+pub(crate) struct Chord {
+    pub(crate) half: Vector,
+    pub(crate) radii: Radii,
 }
 
 impl Chord {
-    fn largest(self) -> f32
+    pub(crate) fn largest(self) -> f32
         ensures { result ≡ largest self.half self.radii }
     {
         let along = larger(self.half.x.abs(), self.half.y.abs());
