@@ -57,9 +57,9 @@ impl Ellipse {
 
     // The curve from one angle to another, and where it begins.
     fn first_curve<K: MathsHost>(self, from: f32, to: f32, host: &mut K) -> First
-        ensures start { result.start ≡ placed self (round_at (K.functions host.old) from) }
-        ensures answer { result.curve ≡ curve_at (K.functions host.old) self from to }
-        ensures host { host.new ≡ all_asked K.asked host.old (curve_questions from to) }
+        ensures start { result.start ≡ placed self (round_at (K.acts.functions host.old) from) }
+        ensures answer { result.curve ≡ curve_at (K.acts.functions host.old) self from to }
+        ensures host { host.new ≡ all_asked K.acts.asked host.old (curve_questions from to) }
     {
         let start = round_at(from, host);
         let end = round_at(to, host);
@@ -71,8 +71,8 @@ impl Ellipse {
 
     // The curve from one angle to another.
     fn curve_at<K: MathsHost>(self, from: f32, to: f32, host: &mut K) -> Command
-        ensures answer { result ≡ curve_at (K.functions host.old) self from to }
-        ensures host { host.new ≡ all_asked K.asked host.old (curve_questions from to) }
+        ensures answer { result ≡ curve_at (K.acts.functions host.old) self from to }
+        ensures host { host.new ≡ all_asked K.acts.asked host.old (curve_questions from to) }
     {
         let start = round_at(from, host);
         let end = round_at(to, host);
@@ -96,8 +96,8 @@ struct Round {
 
 // The point of the circle of radius 1 at an angle.
 fn round_at<K: MathsHost>(t: f32, host: &mut K) -> Vector
-    ensures answer { result ≡ round_at (K.functions host.old) t }
-    ensures host { host.new ≡ all_asked K.asked host.old (round_questions t) }
+    ensures answer { result ≡ round_at (K.acts.functions host.old) t }
+    ensures host { host.new ≡ all_asked K.acts.asked host.old (round_questions t) }
 {
     let sine = host.sin(t);
     let cosine = host.cos(t);
@@ -105,8 +105,8 @@ fn round_at<K: MathsHost>(t: f32, host: &mut K) -> Vector
 }
 
 fn turned<K: MathsHost>(angle: f32, host: &mut K) -> Turned
-    ensures answer { result ≡ turned_of (K.functions host.old) angle }
-    ensures host { host.new ≡ all_asked K.asked host.old (round_questions angle) }
+    ensures answer { result ≡ turned_of (K.acts.functions host.old) angle }
+    ensures host { host.new ≡ all_asked K.acts.asked host.old (round_questions angle) }
 {
     let Vector { x, y } = round_at(angle, host);
     Turned { sine: y, cosine: x }
@@ -123,9 +123,9 @@ fn has_no_chord(half: Vector) -> bool
 #[inline(always)]
 fn curves_from<K: MathsHost>(ellipse: Ellipse, sweep: Sweep, host: &mut K) -> Round
     requires { (1 ≤ sweep.count) × (sweep.count ≤ 4) }
-    ensures start { result.start ≡ placed ellipse (round_at (K.functions host.old) sweep.start) }
-    ensures answer { result.curves.items ≡ all_curves sweep.count (K.functions host.old) ellipse sweep.start sweep.each }
-    ensures host { host.new ≡ all_asked K.asked host.old (all_questions sweep.count sweep.start sweep.each) }
+    ensures start { result.start ≡ placed ellipse (round_at (K.acts.functions host.old) sweep.start) }
+    ensures answer { result.curves.items ≡ all_curves sweep.count (K.acts.functions host.old) ellipse sweep.start sweep.each }
+    ensures host { host.new ≡ all_asked K.acts.asked host.old (all_questions sweep.count sweep.start sweep.each) }
 {
     let mut angle = sweep.start + sweep.each;
     let First { start, curve } = ellipse.first_curve(sweep.start, angle, host);
@@ -141,9 +141,9 @@ fn curves_from<K: MathsHost>(ellipse: Ellipse, sweep: Sweep, host: &mut K) -> Ro
 #[tactic(auto, using(crate::proofs::Round::sweep_few))]
 #[inline(always)]
 fn curves_round<K: MathsHost>(turned_arc: TurnedArc, centred: Centred, host: &mut K) -> Round
-    ensures start { result.start ≡ start_round (K.functions host.old) turned_arc.arc turned_arc.turned centred }
-    ensures answer { result.curves.items ≡ round_curves (K.functions host.old) turned_arc.arc turned_arc.turned centred }
-    ensures host { host.new ≡ all_asked K.asked host.old (round_all_questions (K.functions host.old) turned_arc.arc centred) }
+    ensures start { result.start ≡ start_round (K.acts.functions host.old) turned_arc.arc turned_arc.turned centred }
+    ensures answer { result.curves.items ≡ round_curves (K.acts.functions host.old) turned_arc.arc turned_arc.turned centred }
+    ensures host { host.new ≡ all_asked K.acts.asked host.old (round_all_questions (K.acts.functions host.old) turned_arc.arc centred) }
 {
     let sweep = find_sweep(turned_arc.arc, centred, host);
     curves_from(Ellipse::new(centred, turned_arc.turned, sweep), sweep, host)
@@ -153,8 +153,8 @@ fn curves_round<K: MathsHost>(turned_arc: TurnedArc, centred: Centred, host: &mu
 #[tactic(auto, unfolding(crate::specs::Curves::arc_questions))]
 #[inline(always)]
 fn curves_of<K: MathsHost>(arc: ArcTo, alone: bool, host: &mut K) -> Few
-    ensures answer { result.items ≡ curves_of (K.functions host.old) alone arc }
-    ensures host { host.new ≡ all_asked K.asked host.old (arc_questions (K.functions host.old) alone arc) }
+    ensures answer { result.items ≡ curves_of (K.acts.functions host.old) alone arc }
+    ensures host { host.new ≡ all_asked K.acts.asked host.old (arc_questions (K.acts.functions host.old) alone arc) }
 {
     let turned_arc = TurnedArc {
         arc,
@@ -177,10 +177,10 @@ fn curves_of<K: MathsHost>(arc: ArcTo, alone: bool, host: &mut K) -> Few
 /// strokes are not alone: they are the Rust's.
 #[inline(always)]
 pub fn arc_curves<K: MathsHost>(arc: ArcTo, alone: bool, host: &mut K) -> Few
-    ensures answer { result.items ≡ curves_of (K.functions host.old) alone arc }
-    ensures host { host.new ≡ all_asked K.asked host.old (arc_questions (K.functions host.old) alone arc) }
-    ensures few { OneToFour (no_chord (half_chord arc (turned_of (K.functions host.old) arc.angle))) result.items }
-    ensures needed { CountedAs (K.functions host.old) alone arc result.items }
+    ensures answer { result.items ≡ curves_of (K.acts.functions host.old) alone arc }
+    ensures host { host.new ≡ all_asked K.acts.asked host.old (arc_questions (K.acts.functions host.old) alone arc) }
+    ensures few { OneToFour (no_chord (half_chord arc (turned_of (K.acts.functions host.old) arc.angle))) result.items }
+    ensures needed { CountedAs (K.acts.functions host.old) alone arc result.items }
     ensures reaches { T alone → ReachesEnd arc result.items }
     ensures finite { T alone → FiniteIfEnds arc result.items }
 {

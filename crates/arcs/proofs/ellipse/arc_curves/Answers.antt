@@ -10,7 +10,7 @@ pub returns : goal.returns
 returns g c =
     let arc = c.args.arc in
     let alone = c.args.alone in
-    let F = g.K.MathsHost.functions c.args.host.now in
+    let F = g.K.MathsHost.acts.functions c.args.host.now in
     let row : c.curves_of.result.items ≡ curves_of F alone arc = c.curves_of.ensures.answer in
     record {
       answer = row;

@@ -14,13 +14,13 @@ loop-i-init g c =
     let e = c.args.ellipse in
     let t = c.args.sweep.start in
     let each = c.args.sweep.each in
-    let F = g.K.MathsHost.functions c.args.host.now in
+    let F = g.K.MathsHost.acts.functions c.args.host.now in
     let some : 0 < n = omega (arith, c.requires) in
     let first : c.few-curves.result.items ≡ curve_at F e t (t ⊕ each) ∷ [] = ap (λ p. p.items) c.few-curves.ensures ∙ ap (λ x. x ∷ []) c.first_curve-curve.ensures.answer in
     record {
-      same = ap g.K.MathsHost.functions c.first_curve-curve.ensures.host ∙ asked_same g.K.MathsHost.asked g.K.MathsHost.functions g.met.K.MathsHost.same c.args.host.now (curve_questions t (t ⊕ each));
+      same = ap g.K.MathsHost.acts.functions c.first_curve-curve.ensures.host ∙ asked_same g.K.MathsHost.acts g.met.K.MathsHost.same c.args.host.now (curve_questions t (t ⊕ each));
       drawn = curves_first n F e t each some first;
-      answered = questions_first g.K.MathsHost.asked n t each c.args.host.now some c.first_curve-curve.ensures.host;
+      answered = questions_first g.K.MathsHost.acts.asked n t each c.args.host.now some c.first_curve-curve.ensures.host;
       room = ap (λ p. length p.spare) c.few-curves.ensures;
     }
 
@@ -30,7 +30,7 @@ loop-i-preserved g c =
     let t = c.loop-i.angle in
     let each = c.args.sweep.each in
     let inv = c.loop-i.invariant in
-    let F = g.K.MathsHost.functions c.args.host.now in
+    let F = g.K.MathsHost.acts.functions c.args.host.now in
     let items = c.loop-i.curves.items in
     let spare = c.loop-i.curves.spare in
     let room : 0 < length spare = omega (arith, inv.room, c.loop-i-test.true, c.requires) in
@@ -40,6 +40,6 @@ loop-i-preserved g c =
     record {
       same = search rules;
       drawn = curves_more c.args.sweep.count c.loop-i.i F e t each items c.loop-i-test.true drawn inv.drawn;
-      answered = questions_more g.K.MathsHost.asked c.args.sweep.count c.loop-i.i t each c.loop-i.host c.loop-i-test.true c.curve_at.ensures.host inv.answered;
+      answered = questions_more g.K.MathsHost.acts.asked c.args.sweep.count c.loop-i.i t each c.loop-i.host c.loop-i-test.true c.curve_at.ensures.host inv.answered;
       room = search rules;
     }
