@@ -106,18 +106,20 @@ reaches_of : {S : Type 0} (sinks : SinkActs S) (a : ArcTo) (cs : List Command) (
 reaches_of sinks a cs s h =
     let d = sending sinks cs s 0 in
     cond_both d.going (Ok d.sent) (Err (refused SinkRefused d.sent)) (λ r. ReachesIfDrawn a r cs)
-    (λ e. subst (ReachesEnd a) (sym (ap (λ n. take n cs) ((sent_all sinks cs s 0).0 e) ∙ take-length cs)) h)
+    (λ e. let all : d.sent ≡ length cs = omega (arith, (sent_all sinks cs s 0).0 e) in subst (ReachesEnd a) (sym (ap (λ n. take n cs) all ∙ take-length cs)) h)
     (λ _. tt)
 
 pub reaches_sent : {S : Type 0} (sinks : SinkActs S) (a : ArcTo) (cs : List Command) (s : S) {row : List Command} {r : Result ℕ Refusal} → r ≡ sent_answer (sending sinks cs s 0) → cs ≡ row → ReachesEnd a row → ReachesIfDrawn a r row
-reaches_sent sinks a cs s is same h = subst (λ r. ReachesIfDrawn a r _) (sym is) (subst (λ l. ReachesIfDrawn a (sent_answer (sending sinks cs s 0)) l) same (reaches_of sinks a cs s (subst (ReachesEnd a) (sym same) h)))
+reaches_sent sinks a cs s {row = row} {r = r} is same h = subst (λ q. ReachesIfDrawn a q row) (sym is) (subst (λ l. ReachesIfDrawn a (sent_answer (sending sinks cs s 0)) l) same (reaches_of sinks a cs s (subst (ReachesEnd a) (sym same) h)))
 
 -- and what is sent of finite curves is finite
 and_both : (x y : Bool) → T x → T y → T (x && y)
 and_both true true h k = tt
+and_both true false h k = absurd k
+and_both false y h k = absurd h
 
-pub finite_sent : (a : ArcTo) {row : List Command} (r : Result ℕ Refusal) → FiniteIfEnds a row → SentFinite a r row
-finite_sent a r h ends = first_finite _ (taken r) (h ends)
+pub finite_sent : (a : ArcTo) (row : List Command) (r : Result ℕ Refusal) → FiniteIfEnds a row → SentFinite a r row
+finite_sent a row r h ends = first_finite row (taken r) (h ends)
   where
     first_finite : (row : List Command) (n : ℕ) → T (all_finite row) → T (all_finite (take n row))
     first_finite row zero h = tt

@@ -36,7 +36,6 @@ fn no_ellipse() -> Refusal
 }
 
 // All is asked of the host before the first curve is sent.
-#[tactic(auto, using(crate::proofs::Sends::few_sent, crate::proofs::Sends::reaches_sent, crate::proofs::Sends::finite_sent))]
 fn draw<S: Sink, K: MathsHost>(arc: ArcTo, sink: &mut S, host: &mut K) -> Result<u64, Refusal>
     ensures answer { result ≡ sent_answer (drawn S.acts (K.acts.functions host.old) arc sink.old) }
     ensures sink { sink.new ≡ (drawn S.acts (K.acts.functions host.old) arc sink.old).sink }

@@ -1,5 +1,5 @@
 -- Of an arc by itself: how many curves it has, that it ends at its end, and that it is finite where its ends are.
-use Rattle.std.proofs.Common.{◌≡◌, ℕ, ◌≤◌, Bool, true, false, cond, not, ◌&&◌, ◌||◌, ◌⊎◌, inl, inr, T, List, [], ◌∷◌, length, refl, sym, ap, ◌∙◌, subst, arith}
+use Rattle.std.proofs.Common.{◌≡◌, ℕ, ◌≤◌, Bool, true, false, cond, not, ◌&&◌, ◌||◌, inl, inr, T, List, [], ◌∷◌, length, refl, sym, ◌∙◌, subst, arith}
 use Rattle.std.proofs.lemmas.Bool.{cond-true, cond-false, cond_both}
 use Rattle.std.proofs.lemmas.Float.{T_from_true}
 use lib.Ieee.{Float, le}
@@ -13,10 +13,10 @@ use Rattle.arcs.specs.declared.arc_to.ArcTo.{ArcTo}
 use Rattle.arcs.specs.declared.centre.Turned.{Turned}
 use Rattle.arcs.specs.Centres.{half_chord, radii_of}
 use Rattle.arcs.specs.Sweeps.{turn_of}
-use Rattle.arcs.specs.Curves.{no_chord, turned_of, centred_of, round_curves, arc_curves, OneToFour, AsNeeded}
+use Rattle.arcs.specs.Curves.{no_chord, turned_of, centred_of, arc_curves, OneToFour}
 use Rattle.arcs.specs.Chords.{half_chord_of, half_turn, frame_of, is_short, short_curves, long_curves, chord_curves}
 use Rattle.arcs.specs.Ends.{point_finite, all_finite, end_of, nearness, no_sliver, lands, start_round, finite_or_straight, landing, curves_by_centre, lands_by_centre, lone_curves, curves_of}
-use Rattle.arcs.specs.Laws.{EndsAt, ReachesEnd, FiniteIfEnds, OneTwoOrFour, Counted, CountedAs}
+use Rattle.arcs.specs.Laws.{ReachesEnd, FiniteIfEnds, OneTwoOrFour, Counted, CountedAs}
 use Rattle.arcs.proofs.Round.{round_few}
 use Rattle.arcs.proofs.Quarters.{needed}
 
@@ -129,3 +129,5 @@ finite F true a _ ends =
   where
     all_three : (x y : Bool) → T x → T y → T ((x && (y && y)) && true)
     all_three true true h k = tt
+    all_three true false h k = absurd k
+    all_three false y h k = absurd h

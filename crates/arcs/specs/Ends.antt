@@ -1,5 +1,5 @@
 -- The ends of an arc: whether its curves reach them, and what an arc by itself is made of.
-use Rattle.std.specs.Prelude.{ℕ, ◌-◌, Bool, true, false, cond, not, ◌&&◌, ◌||◌, List, [], ◌∷◌, length, slice_get, from_bits, Option, Some, None, Float}
+use Rattle.std.specs.Prelude.{◌-◌, Bool, true, false, cond, not, ◌&&◌, ◌||◌, List, [], ◌∷◌, length, slice_get, from_bits, Option, Some, None, Float}
 use Rattle.std.specs.Float.{binary32, float_is_finite}
 use Rattle.std.specs.Float.Ieee.{le}
 use Rattle.std.specs.List.{list_all}

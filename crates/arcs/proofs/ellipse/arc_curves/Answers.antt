@@ -1,4 +1,4 @@
-use Rattle.std.proofs.Common.{◌≡◌, T, sym, subst}
+use Rattle.std.proofs.Common.{◌≡◌, sym, subst}
 use Rattle.arcs.specs.Centres.{half_chord}
 use Rattle.arcs.specs.Curves.{no_chord, turned_of, OneToFour}
 use Rattle.arcs.specs.Ends.{curves_of}
