@@ -1,9 +1,11 @@
-use Rattle.std.proofs.Common.{◌≡◌, sym, subst}
+use Rattle.std.proofs.Common.{◌∙◌, ◌≡◌, sym, subst}
 use Rattle.arcs.specs.Centres.{half_chord}
 use Rattle.arcs.specs.Curves.{no_chord, turned_of, OneToFour}
 use Rattle.arcs.specs.Ends.{curves_of}
 use Rattle.arcs.specs.Laws.{CountedAs, ReachesEnd, FiniteIfEnds}
 use Rattle.arcs.proofs.Reached.{few, counted, reaches, finite}
+use Rattle.arcs.proofs.Turns.{turns}
+use Rattle.arcs.proofs.Unsigned.{same_unsigned}
 use Rattle.arcs.proofs.ellipse.arc_curves.Goals as goal
 
 pub returns : goal.returns
@@ -17,6 +19,8 @@ returns g c =
       host = c.curves_of.ensures.host;
       few = subst (OneToFour (no_chord (half_chord arc (turned_of F arc.angle)))) (sym row) (few F alone arc);
       needed = subst (CountedAs F alone arc) (sym row) (counted F (g.met.K.MathsHost.ranged c.args.host.now) alone arc);
+      turns = turns F (g.met.K.MathsHost.ranged c.args.host.now) alone arc;
+      unsigned = row ∙ sym (same_unsigned F alone arc);
       reaches = λ yes. subst (ReachesEnd arc) (sym row) (reaches F alone arc yes);
       finite = λ yes. subst (FiniteIfEnds arc) (sym row) (finite F alone arc yes);
     }
