@@ -9,7 +9,8 @@ use Rattle.std.specs.Float.Ieee.{eq, lt, le, is_nan, of_bits, of_fields, odd, up
 use Rattle.numbers.specs.Arithmetic.{◌⊕◌, zero, one}
 use Rattle.dashes.specs.Patterns.{joined_over, following, length_at, empty_after, full, gap_of_one, room_between, JoinsAll}
 use Rattle.dashes.proofs.Joining.{one_more, stops}
-use Rattle.dashes.proofs.Rooms.{is_true, le_one}
+use lib.Ieee.Bits.{is_true}
+use Rattle.dashes.proofs.Rooms.{le_one}
 
 -- the place of the dash that is t gaps on
 abbrev jumps : ℕ → List Float → ℕ → ℕ

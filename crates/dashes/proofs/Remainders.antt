@@ -8,7 +8,7 @@ use Rattle.dashes.specs.Remainders.{positive}
 use Rattle.std.specs.Float.{float_with_sign}
 use Rattle.numbers.proofs.Patterns.{nan_is, above_nought}
 use Rattle.dashes.proofs.Digits.{zero_is, infinity_is}
-use Rattle.dashes.proofs.Rooms.{is_true}
+use lib.Ieee.Bits.{is_true}
 use lib.Ieee.Exact.{HasValue, round_exact}
 use lib.Ieee.Scale.{round_same}
 use lib.Ieee.Fits.{down_pos}
