@@ -8,7 +8,7 @@ use lib.Ieee.Bits.{of_bits-to_bits}
 use lib.Ieee.Digits.{size-le}
 use lib.Ieee.Exact.{HasValue, odd_sign}
 use lib.Ieee.Fits.{down_pos, and_l, and_r, kept-lt}
-use Rattle.numbers.proofs.Patterns.{above_nought}
+use Rattle.numbers.proofs.Patterns.{zero_is, above_nought}
 use Rattle.dashes.specs.Remainders.{positive, HasDigits}
 
 -- ---- what a pattern stands for
@@ -64,10 +64,6 @@ high_power p lo hi =
     subst (λ (k : ℕ). HasValue (of_bits binary32 b) false k (2 ^ 149)) digits (normal_value b k (omega arith) (omega arith))
 
 -- ---- the pattern of a number above 0 and below the infinity
-
-pub zero_is : of_bits binary32 0 ≡ fin false 0 (pos 0)
-unfolding of_bits
-zero_is = refl
 
 pub infinity_is : of_bits binary32 0x7f80_0000 ≡ inf false
 unfolding of_bits

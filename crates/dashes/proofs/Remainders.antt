@@ -6,9 +6,9 @@ use Rattle.std.proofs.lemmas.Bool.{and_from, or_from, and_left, ltb-true, le-ltb
 use Rattle.std.proofs.lemmas.Float.{T_from_false, lt_of_not-le}
 use Rattle.dashes.specs.Remainders.{positive}
 use Rattle.std.specs.Float.{float_with_sign}
-use Rattle.numbers.proofs.Patterns.{nan_is, above_nought}
-use Rattle.dashes.proofs.Digits.{zero_is, infinity_is}
-use Rattle.dashes.proofs.Rooms.{is_true}
+use Rattle.numbers.proofs.Patterns.{nan_is, zero_is, above_nought}
+use Rattle.dashes.proofs.Digits.{infinity_is}
+use lib.Ieee.Bits.{is_true}
 use lib.Ieee.Exact.{HasValue, round_exact}
 use lib.Ieee.Scale.{round_same}
 use lib.Ieee.Fits.{down_pos}

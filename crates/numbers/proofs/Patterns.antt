@@ -1,5 +1,5 @@
 -- How an `f32` is written: by its bits, and a zero by one power.
-use Rattle.std.proofs.Common.{◌≡◌, ℕ, zero, suc, ◌+◌, ◌-◌, ◌*◌, ◌/◌, ◌^◌, ◌<◌, Bool, cond, T, ℤ, pos, negsuc, refl, ap, suc-le-suc, zero-le, mul-pos, mul-div_cancel, ◌∙◌, arith, eqb→eq, pow-suc}
+use Rattle.std.proofs.Common.{◌≡◌, ℕ, zero, suc, ◌+◌, ◌-◌, ◌*◌, ◌/◌, ◌^◌, ◌<◌, Bool, false, cond, T, ℤ, pos, negsuc, refl, ap, suc-le-suc, zero-le, mul-pos, mul-div_cancel, ◌∙◌, arith, eqb→eq, pow-suc}
 use lib.Ieee.{Float, nan, inf, fin, binary32, up, down, size, fits, of_fields, of_bits, to_bits}
 use lib.Ieee.Exact.{HasValue}
 use lib.Ieee.Fits.{up_pos, down_pos}
@@ -7,6 +7,10 @@ use lib.Ieee.Fits.{up_pos, down_pos}
 pub nan_is : of_bits binary32 0x7fc0_0000 ≡ nan
 unfolding of_bits of_fields
 nan_is = refl
+
+pub zero_is : of_bits binary32 0 ≡ fin false 0 (pos 0)
+unfolding of_bits
+zero_is = refl
 
 pub above_nought : (m : ℕ) (e : ℤ) → 0 < suc m * up e
 above_nought m e = mul-pos (suc-le-suc zero-le) (up_pos e)
