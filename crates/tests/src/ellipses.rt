@@ -57,7 +57,10 @@ fn large_between_close_ends(rt: HostRuntime) {
 #[test]
 fn small_and_falling(rt: HostRuntime) {
     let to = Point::new(0.000001, 0.000001);
-    assert_eq!(rt; drawn(circle(100.0, ArcSize::Small, ArcSweep::Negative, to)), (1, to));
+    assert_eq!(rt;
+        drawn(circle(100.0, ArcSize::Small, ArcSweep::Negative, to)),
+        (1, to)
+    );
 }
 
 // An arc beside whose radius the chord is short is about as long as the chord, and ends at its end.
