@@ -47,13 +47,16 @@ fn alone(seed: u64, number: u64) -> Case {
     }
 }
 
-/// The start is an arc cosine's, which is blurred where the arc begins near the first axis.
+/// The start is an arc cosine's, which is blurred where the arc begins near the first axis; and far from 0 the
+/// steps between floats show.
 fn starts_well(given: Arc) -> bool {
     let chord = (given.from[0] - given.to[0]).hypot(given.from[1] - given.to[1]);
-    Centred::new(given).is_some_and(|centred| {
-        let blur = (1e-6 / centred.start.sin().abs()).min(1e-3);
-        blur * centred.radius() < f64::from(chord) / 2048.0
-    })
+    let far = (given.from.iter().chain(&given.to)).fold(0f32, |far, x| far.max(x.abs()));
+    far <= 1000.0 * chord
+        && Centred::new(given).is_some_and(|centred| {
+            let blur = (1e-6 / centred.start.sin().abs()).min(1e-3);
+            blur * centred.radius() < f64::from(chord) / 2048.0
+        })
 }
 
 /// Within 1/1024 of half the chord in x and in y; an arc by itself asks for 1/256.

@@ -8,7 +8,7 @@ use std::num::{f32_from_bits_with_nan, f32_to_bits_with_nan, f32_to_f64_with_nan
 #[derive(Clone, Copy)]
 pub(crate) struct Compared {
     pub count: Count,
-    /// How far the last point lies from the arc's end, in chords.
+    /// How far the last point lies from the arc's end, in chords; 0 without curves, which are too few.
     pub at_end: f64,
     /// How far a middle or an end of a curve lies from its place at most, beyond what two units in
     /// the last place account for, in sizes of the arc; 0 where no places are noted.
@@ -37,7 +37,7 @@ pub(crate) fn compare(noted: Noted<'_>, curves: &[Command]) -> Compared {
     let chord = from.distance(to);
     let at_end = match curves.last() {
         Some(Command::CurveTo(_, _, end)) => Wide::from(*end).distance(to) / chord,
-        _ => 1.0,
+        _ => 0.0,
     };
     Compared {
         count: count_of(noted, curves),

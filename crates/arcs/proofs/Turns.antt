@@ -1,10 +1,10 @@
--- An arc turns as its flags say.
-use Rattle.std.proofs.Common.{◌≡◌, ℕ, zero, suc, ◌+◌, ◌-◌, ◌*◌, ◌<◌, ◌≤◌, Bool, true, false, cond, ◌&&◌, ◌||◌, T, ltb, eqb, ℤ, pos, negsuc, refl, sym, subst, not, arith, ltb-true}
+-- An arc turns as its flags say, and its radii grow where they are too small.
+use Rattle.std.proofs.Common.{◌≡◌, ℕ, zero, suc, ◌+◌, ◌-◌, ◌*◌, ◌<◌, ◌≤◌, Bool, true, false, cond, ◌&&◌, ◌||◌, T, ltb, eqb, ℤ, pos, refl, sym, subst, arith, ltb-true}
 use Rattle.std.proofs.Math.Facts.{yes_ltb}
 use Rattle.std.proofs.lemmas.Bool.{cond_both, ltb-false}
 use Rattle.std.proofs.lemmas.Float.{T_from_true}
 use Prim.Native.Nat.{◌^◌}
-use lib.Ieee.{Float, nan, inf, fin, binary32, up, down, round, sum, odd, units, low, prec, emax, nearest, size, neg, sub, add, mul, lt, le, eq, is_nan, of_bits}
+use lib.Ieee.{Float, nan, inf, fin, binary32, up, down, round, sum, odd, units, low, prec, emax, nearest, size, neg, sub, add, lt, le, eq, is_nan, of_bits}
 use lib.Ieee.Fits.{down_pos}
 use lib.Ieee.Order.{round_mono, le_of_values}
 use Rattle.numbers.specs.Arithmetic.{◌⊕◌, ◌⊖◌, ◌⊗◌, one}
@@ -13,16 +13,18 @@ use Rattle.maths.specs.Functions.{Functions, Angle}
 use Rattle.std.specs.Float.{float_with_sign}
 use Prim.Native.Nat.{◌%◌, compare}
 use Rattle.std.proofs.Common.{◌/◌}
-use lib.Ieee.{Format}
 use Rattle.arcs.specs.declared.arc_to.ArcTo.{ArcTo}
 use Rattle.arcs.specs.declared.arc_to.ArcSize.{ArcSize}
 use Rattle.arcs.specs.declared.arc_to.ArcSize.TheVariants.{Small, Large}
 use Rattle.arcs.specs.declared.arc_to.ArcSweep.{ArcSweep}
 use Rattle.arcs.specs.declared.arc_to.ArcSweep.TheVariants.{Negative, Positive}
-use Rattle.arcs.specs.Centres.{size_of}
-use Rattle.arcs.specs.Curves.{centred_of}
-use Rattle.arcs.specs.Sweeps.{tau, turned_by, turn_by, turn_of, angle_between}
-use Rattle.arcs.specs.Laws.{goes, is_of, wraps, ByFlags, TurnsByFlags}
+use Rattle.numbers.specs.Arithmetic.{root}
+use Rattle.path.specs.Vectors.{multiple}
+use Rattle.arcs.specs.declared.radii.Radii.{Radii}
+use Rattle.arcs.specs.Centres.{size_of, half_chord, radii_of, scaled_radii, divided_radii, scale_of, lambda}
+use Rattle.arcs.specs.Curves.{turned_of}
+use Rattle.arcs.specs.Sweeps.{tau, turned_by, turn_by}
+use Rattle.arcs.specs.Laws.{goes, is_of, wraps, ByFlags, TurnsByFlags, FitsBy, RadiiFit}
 use Rattle.arcs.proofs.Quarters.{size_round, half_turn, zero_round, half_round, or_r, Within, small, no_inf, Half, signed, at_most}
 
 -- ---- numbers with a sign
@@ -185,9 +187,12 @@ unfolding of_bits
 small_of x h = h
 
 small_growing : (x : Float) → Half x → ByFlags Small Positive x (turned_by x)
-small_growing x h = (grows_from x h, cond_both (lt x zeroᶠ) (x ⊕ tau) x (λ t. T (is_nan t || (is_of Small t || lt x zeroᶠ)))
-    (λ below. or_r (is_nan (x ⊕ tau)) _ (or_r (is_of Small (x ⊕ tau)) (lt x zeroᶠ) (T_from_true (lt x zeroᶠ) below)))
-    (λ _. weaker (is_nan x) (is_of Small x) (lt x zeroᶠ) (small_of x h)))
+small_growing x h = (
+  grows_from x h,
+  cond_both (lt x zeroᶠ) (x ⊕ tau) x (λ t. T (is_nan t || (is_of Small t || lt x zeroᶠ)))
+      (λ below. or_r (is_nan (x ⊕ tau)) _ (or_r (is_of Small (x ⊕ tau)) (lt x zeroᶠ) (T_from_true (lt x zeroᶠ) below)))
+      (λ _. weaker (is_nan x) (is_of Small x) (lt x zeroᶠ) (small_of x h)),
+)
 
 by_flags : (z : ArcSize) (w : ArcSweep) (b : Bool) (a : Float) → Angle a → ByFlags z w (cond b (neg one) one ⊗ a) (turn_by z w (cond b (neg one) one) a)
 unfolding neg of_bits
@@ -198,3 +203,17 @@ by_flags Large Negative b a h = large_falling (cond b (neg one) one ⊗ a) a h
 
 pub turns : (F : Functions) → ((x : Float) → Angle (F.arc_cosine x)) → (alone : Bool) (a : ArcTo) → TurnsByFlags F alone a
 turns F lawful alone a = by_flags a.size a.sweep _ _ (lawful _)
+
+-- ---- the radii
+
+fits_by : (b : Bool) (l : Float) (r : Radii) (k : Float) → FitsBy b l r k (divided_radii (cond b (scaled_radii r (root l)) r) k)
+fits_by true l r k = refl
+fits_by false l r k = refl
+
+pub radii_fit : (F : Functions) (alone : Bool) (a : ArcTo) → RadiiFit F alone a
+radii_fit F alone a =
+    let p = half_chord a (turned_of F a.angle) in
+    let k = scale_of alone p (radii_of a) in
+    let r = scaled_radii (radii_of a) k in
+    let l = lambda (multiple p k) r in
+    fits_by (lt one l) l r k

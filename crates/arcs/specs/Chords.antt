@@ -118,8 +118,8 @@ short_curves a f h =
     let g = half_cosine c in
     let b = two ⊘ three ⊘ (g ⊗ (one ⊕ g)) in
     cond (le s c)
-      (curve_to f (four ⊘ three ⊘ (one ⊕ c)) start end ∷ [])
-      (curve_to f b start top ∷ curve_to f b top end ∷ [])
+    (curve_to f (four ⊘ three ⊘ (one ⊕ c)) start end ∷ [])
+    (curve_to f b start top ∷ curve_to f b top end ∷ [])
 
 -- more than half a turn: four curves, which meet at the top and half way to it on both sides
 abbrev pub long_curves : ArcTo → Frame → HalfTurn → List Command

@@ -81,7 +81,7 @@ unfoldable pub lone_curves : Functions → ArcTo → List Command
 lone_curves F a =
     let t = turned_of F a.angle in
     cond (no_chord (half_chord a t)) []
-      (cond (lands_by_centre F true a) (curves_by_centre F true a) (finite_or_straight a (chord_curves a t)))
+    (cond (lands_by_centre F true a) (curves_by_centre F true a) (finite_or_straight a (chord_curves a t)))
 
 -- the arcs of strokes are the Rust's, wherever they end
 abbrev pub curves_of : Functions → Bool → ArcTo → List Command

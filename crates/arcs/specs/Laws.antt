@@ -2,7 +2,7 @@
 use Rattle.std.specs.Prelude.{◌≡◌, ℕ, ◌⊎◌, Bool, true, false, ◌&&◌, ◌||◌, not, T, List, [], length, from_bits, is_nan, Float}
 use Rattle.std.specs.Float.{binary32}
 use Rattle.std.specs.Float.Ieee.{lt, le}
-use Rattle.numbers.specs.Arithmetic.{zero}
+use Rattle.numbers.specs.Arithmetic.{root, zero, one}
 use Rattle.arcs.specs.declared.arc_to.ArcSize.{ArcSize}
 use Rattle.arcs.specs.declared.arc_to.ArcSize.TheVariants.{Small, Large}
 use Rattle.arcs.specs.declared.arc_to.ArcSweep.{ArcSweep}
@@ -10,9 +10,10 @@ use Rattle.arcs.specs.declared.arc_to.ArcSweep.TheVariants.{Negative, Positive}
 use Rattle.maths.specs.Functions.{Functions}
 use Rattle.path.specs.declared.geometry.Vector.{Vector}
 use Rattle.path.specs.declared.command.Command.{Command}
-use Rattle.path.specs.Vectors.{near_by}
+use Rattle.path.specs.Vectors.{multiple, near_by}
 use Rattle.arcs.specs.declared.arc_to.ArcTo.{ArcTo}
-use Rattle.arcs.specs.Centres.{size_of, half_chord}
+use Rattle.arcs.specs.declared.radii.Radii.{Radii}
+use Rattle.arcs.specs.Centres.{size_of, half_chord, radii_of, scaled_radii, divided_radii, scale_of, lambda}
 use Rattle.arcs.specs.Sweeps.{angle_between, turn_of}
 use Rattle.arcs.specs.Curves.{no_chord, turned_of, centred_of, AsNeeded}
 use Rattle.arcs.specs.Ends.{point_finite, all_finite, end_of, nearness, lands_by_centre}
@@ -80,3 +81,16 @@ TurnsByFlags F alone a = let c = centred_of F alone a in ByFlags a.size a.sweep 
 -- without their signs
 abbrev pub unsigned : ArcTo → ArcTo
 unsigned a = record { from = a.from; rx = size_of a.rx; ry = size_of a.ry; angle = a.angle; size = a.size; sweep = a.sweep; to = a.to }
+
+-- F.6.6: radii r are multiplied by the root of lambda exactly where it is above 1; all lengths are multiplied by k before and divided after
+abbrev pub FitsBy : Bool → Float → Radii → Float → Radii → Type 0
+FitsBy true l r k fit = fit ≡ divided_radii (scaled_radii r (root l)) k
+FitsBy false l r k fit = fit ≡ divided_radii r k
+
+abbrev pub RadiiFit : Functions → Bool → ArcTo → Type 0
+RadiiFit F alone a =
+    let p = half_chord a (turned_of F a.angle) in
+    let k = scale_of alone p (radii_of a) in
+    let r = scaled_radii (radii_of a) k in
+    let l = lambda (multiple p k) r in
+    FitsBy (lt one l) l r k (centred_of F alone a).radii

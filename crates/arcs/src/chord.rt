@@ -55,10 +55,7 @@ fn direction(v: Vector) -> Vector
 fn turn_back(t: Turned, v: Vector) -> Vector
     ensures { result ≡ turn_back t v }
 {
-    Vector::new(
-        t.cosine * v.x + t.sine * v.y,
-        t.cosine * v.y - t.sine * v.x,
-    )
+    Vector::new(t.cosine * v.x + t.sine * v.y, t.cosine * v.y - t.sine * v.x)
 }
 
 /// Half of an arc's chord on the circle of radius 1 that its ellipse becomes, as a length and a direction.

@@ -57,7 +57,10 @@ fn large_between_close_ends(rt: HostRuntime) {
 #[test]
 fn small_and_falling(rt: HostRuntime) {
     let to = Point::new(0.000001, 0.000001);
-    assert_eq!(rt; drawn(circle(100.0, ArcSize::Small, ArcSweep::Negative, to)), (1, to));
+    assert_eq!(rt;
+        drawn(circle(100.0, ArcSize::Small, ArcSweep::Negative, to)),
+        (1, to)
+    );
 }
 
 // An arc beside whose radius the chord is short is about as long as the chord, and ends at its end.
@@ -166,7 +169,10 @@ fn no_number(rt: HostRuntime) {
     let to = Point::new(1.0, 0.0);
     let arc = circle(f32::NAN, ArcSize::Small, ArcSweep::Positive, to);
     let few = arc_curves(arc, true, &mut SeriesHost::new());
-    assert_eq!(rt; few.as_slice(), &[Command::CurveTo(arc.from, to, to)]);
+    assert_eq!(rt;
+        few.as_slice(),
+        [Command::CurveTo(arc.from, to, to)].as_slice()
+    );
 }
 
 #[test]
@@ -178,4 +184,22 @@ fn ends_that_are_one_point(rt: HostRuntime) {
         Point::new(0.0, 0.0),
     ));
     assert_eq!(rt; n, 0);
+}
+
+// The arc of a round join of width 4096, at the corner of M 0 0, L 543 -840, L 1086.41 -1679.46: not alone, and
+// zeno's, which stays at its start, 1.31 from its end.
+#[test]
+fn a_join_that_misses(rt: HostRuntime) {
+    let to = Point::new(-1176.2247, -1952.9106);
+    let join = ArcTo {
+        from: Point::new(-1176.934, -1951.8145),
+        ..circle(2048.0, ArcSize::Small, ArcSweep::Positive, to)
+    };
+    let stays = Point::new(-1176.9338, -1951.8145);
+    let few = arc_curves(join, false, &mut SeriesHost::new());
+    assert_eq!(rt;
+        few.as_slice(),
+        [Command::CurveTo(stays, stays, stays)].as_slice()
+    );
+    assert_eq!(rt; drawn(join), (1, to));
 }
