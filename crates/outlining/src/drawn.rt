@@ -24,7 +24,7 @@ pub fn drawn_lines<R: ReadableSink>(
     sink: &R,
     answer: Result<Tally, Refusal>,
 ) -> Result<Vec<Line>, AllocError>
-    ensures { IfOk result (λ v. v.items ≡ drawn_lines (R.meaning sink.now).list answer) }
+    ensures { IfOk result (λ v. v.items ≡ drawn_lines (R.acts.meaning sink.now).list answer) }
 {
     let mut lines = Vec::new(heap);
     for i in 0..sink.len() {
