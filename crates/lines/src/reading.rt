@@ -3,6 +3,7 @@ ghost use Rattle.std.specs.Io.KnownBytes.{Consumes, IsAtEnd};
 ghost use Rattle.std.specs.Io.{ReadsAtMost};
 ghost use Rattle.lines.specs.Streams.{Begins};
 
+use std::alloc::Global;
 use std::io;
 use std::io::{ErrorKind, Read};
 
@@ -14,6 +15,17 @@ pub fn read_front<R: Read>(reader: &mut R, places: &mut [u8]) -> io::Result<usiz
     ensures left { OnOk result (IfSome (R.remaining reader.old) (λ xs. R.remaining reader.new ≡ Some (drop (length places.old) xs))) }
 {
     filled(reader, places)
+}
+
+/// Reads likewise into new memory, so many bytes at most.
+pub fn read_up_to<R: Read>(heap: Global, reader: &mut R, most: usize) -> io::Result<Vec<u8>>
+    ensures bytes { IfOk result (λ v. IfSome (R.remaining reader.old) (λ xs. v.items ≡ take most xs)) }
+    ensures left { OnOk result (IfSome (R.remaining reader.old) (λ xs. R.remaining reader.new ≡ Some (drop most xs))) }
+{
+    let mut bytes = vec![in heap; 0; most]?;
+    let count = read_front(reader, &mut bytes)?;
+    bytes.truncate(count);
+    Ok(bytes)
 }
 
 fn filled<R: Read>(reader: &mut R, places: &mut [u8]) -> io::Result<usize>

@@ -13,7 +13,7 @@ use job::reader::JobReader;
 use job::whole::Job;
 use lines::line::Line;
 use lines::printing::{print, println};
-use lines::reading::read_front;
+use lines::reading::read_up_to;
 use path::command::Command;
 use segments::segment::Segment;
 use sinks::record_list::RecordList;
@@ -36,9 +36,8 @@ pub fn replay<R: Read, W: Write>(heap: Global, reader: &mut R, writer: &mut W) -
     ensures text { IfSome (R.remaining reader.old) (λ bytes. Writes (W.contents writer.old) (W.contents writer.new) result (replay_of (take 720913 bytes))) }
     ensures left { OnOk result (IfSome (R.remaining reader.old) (λ bytes. R.remaining reader.new ≡ Some (drop 720913 bytes))) }
 {
-    let mut places = vec![in heap; 0; MOST_BYTES]?;
-    let count = read_front(reader, &mut places)?;
-    replay_bytes(heap, writer, &places[..count])
+    let bytes = read_up_to(heap, reader, MOST_BYTES)?;
+    replay_bytes(heap, writer, &bytes)
 }
 
 /// Replays the setting that the bytes tell, or prints why they tell none. Where it fails, also for want
