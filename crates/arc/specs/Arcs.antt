@@ -1,17 +1,16 @@
 -- An arc by itself: its curves, sent one after the other.
-use Rattle.std.specs.Prelude.{◌≡◌, ℕ, ◌+◌, ◌≤◌, Bool, true, false, cond, ◌||◌, List, [], ◌∷◌, ◌++◌, map, take, Ok, Err, Result, Float}
+use Rattle.std.specs.Prelude.{◌≡◌, ℕ, ◌+◌, ◌≤◌, Bool, true, false, cond, ◌||◌, List, [], ◌∷◌, ◌++◌, map, take, Ok, Err, Result}
 use Rattle.std.specs.Float.Ieee.{eq}
 use Rattle.numbers.specs.Arithmetic.{zero}
-use Rattle.maths.specs.Functions.{Functions}
+use Rattle.maths.specs.Functions.{Functions, HostActs}
 use Rattle.maths.specs.Questions.{all_asked}
-use Rattle.maths.specs.declared.host.Function.{Function}
 use Rattle.path.specs.declared.command.Command.{Command}
 use Rattle.path.specs.declared.refusal.Reason.{Reason}
 use Rattle.path.specs.declared.refusal.Reason.TheVariants.{SinkRefused, ZeroRadius}
 use Rattle.path.specs.declared.refusal.Refusal.{Refusal}
 use Rattle.arcs.specs.declared.arc_to.ArcTo.{ArcTo}
 use Rattle.arcs.specs.Curves.{arc_curves, arc_questions}
-use Rattle.sinks.specs.Meaning.{Meaning, takes}
+use Rattle.sinks.specs.Meaning.{Meaning, SinkActs, takes}
 
 -- a radius is 0 or minus 0
 abbrev pub zero_radius : ArcTo → Bool
@@ -30,12 +29,12 @@ pub record Sending (S : Type 0) : Type 0 where
 abbrev pub sent_answer : {S : Type 0} → Sending S → Result ℕ Refusal
 sent_answer d = cond d.going (Ok d.sent) (Err (refused SinkRefused d.sent))
 
--- S the sinks, with what they mean and how they take a command
-module _ {S : Type 0} (meaning : S → Meaning) (took : S → Command → S) where
+-- sinks S, with what they do
+module _ {S : Type 0} (sinks : SinkActs S) where
   -- commands in order, up to the first that the sink refuses, after n that it took
   unfoldable pub sending : List Command → S → ℕ → Sending S
   sending [] s n = record { sink = s; sent = n; going = true }
-  sending (c ∷ cs) s n = cond (takes (meaning s) c) (sending cs (took s c) (n + 1)) (record { sink = s; sent = n; going = false })
+  sending (c ∷ cs) s n = cond (takes (sinks.meaning s) c) (sending cs (sinks.took s c) (n + 1)) (record { sink = s; sent = n; going = false })
 
   abbrev pub drawn : Functions → ArcTo → S → Sending S
   drawn F a s = sending (arc_curves F true a) s 0
@@ -48,8 +47,8 @@ module _ {S : Type 0} (meaning : S → Meaning) (took : S → Command → S) whe
   arc_sink F a s = cond (zero_radius a) s (drawn F a s).sink
 
 -- all questions of the arc are asked before the first curve is sent
-abbrev pub arc_host : {K : Type 0} → (K → Function → Float → K) → Functions → ArcTo → K → K
-arc_host asked F a h = cond (zero_radius a) h (all_asked asked h (arc_questions F true a))
+abbrev pub arc_host : {K : Type 0} → HostActs K → Functions → ArcTo → K → K
+arc_host hosts F a h = cond (zero_radius a) h (all_asked hosts.asked h (arc_questions F true a))
 
 -- an accepted arc sends one to four curves, or none where its ends are one point; a refused one at most three
 abbrev pub Few : Bool → Result ℕ Refusal → Type 0

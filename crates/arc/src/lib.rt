@@ -35,13 +35,13 @@ fn no_ellipse() -> Refusal
 }
 
 // All is asked of the host before the first curve is sent.
-#[tactic(auto, using(crate::proofs::Sends::few_sent, crate::proofs::Sends::joined_sent))]
+#[tactic(auto, using(crate::proofs::Sends::few_sent))]
 fn draw<S: Sink, K: MathsHost>(arc: ArcTo, sink: &mut S, host: &mut K) -> Result<u64, Refusal>
-    ensures answer { result ≡ sent_answer (drawn S.meaning S.took (K.functions host.old) arc sink.old) }
-    ensures sink { sink.new ≡ (drawn S.meaning S.took (K.functions host.old) arc sink.old).sink }
-    ensures host { host.new ≡ all_asked K.asked host.old (arc_questions (K.functions host.old) true arc) }
-    ensures few { Few (no_chord (half_chord arc (turned_of (K.functions host.old) arc.angle))) result }
-    ensures joined { Joined (S.meaning sink.old) result (arc_curves (K.functions host.old) true arc) (S.meaning sink.new) }
+    ensures answer { result ≡ sent_answer (drawn S.acts (K.acts.functions host.old) arc sink.old) }
+    ensures sink { sink.new ≡ (drawn S.acts (K.acts.functions host.old) arc sink.old).sink }
+    ensures host { host.new ≡ all_asked K.acts.asked host.old (arc_questions (K.acts.functions host.old) true arc) }
+    ensures few { Few (no_chord (half_chord arc (turned_of (K.acts.functions host.old) arc.angle))) result }
+    ensures joined { Joined (S.acts.meaning sink.old) result (arc_curves (K.acts.functions host.old) true arc) (S.acts.meaning sink.new) }
 {
     let curves = arc_curves(arc, true, host);
     send_all(curves.as_slice(), sink)
@@ -54,11 +54,11 @@ fn draw<S: Sink, K: MathsHost>(arc: ArcTo, sink: &mut S, host: &mut K) -> Result
 /// curve the arc is refused, and the curves before it stay in the sink.
 #[tactic(auto, using(crate::proofs::Sends::joined_none))]
 pub fn arc<S: Sink, K: MathsHost>(arc: ArcTo, sink: &mut S, host: &mut K) -> Result<u64, Refusal>
-    ensures answer { result ≡ arc_answer S.meaning S.took (K.functions host.old) arc sink.old }
-    ensures sink { sink.new ≡ arc_sink S.meaning S.took (K.functions host.old) arc sink.old }
-    ensures host { host.new ≡ arc_host K.asked (K.functions host.old) arc host.old }
-    ensures few { Few (no_chord (half_chord arc (turned_of (K.functions host.old) arc.angle))) result }
-    ensures joined { Joined (S.meaning sink.old) result (arc_curves (K.functions host.old) true arc) (S.meaning sink.new) }
+    ensures answer { result ≡ arc_answer S.acts (K.acts.functions host.old) arc sink.old }
+    ensures sink { sink.new ≡ arc_sink S.acts (K.acts.functions host.old) arc sink.old }
+    ensures host { host.new ≡ arc_host K.acts (K.acts.functions host.old) arc host.old }
+    ensures few { Few (no_chord (half_chord arc (turned_of (K.acts.functions host.old) arc.angle))) result }
+    ensures joined { Joined (S.acts.meaning sink.old) result (arc_curves (K.acts.functions host.old) true arc) (S.acts.meaning sink.new) }
 {
     if has_zero_radius(arc) {
         return Err(no_ellipse());

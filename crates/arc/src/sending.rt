@@ -18,8 +18,8 @@ fn refused_after(sent: u64) -> Refusal
 
 // Each command in order, up to the first refusal; answers how many the sink took.
 pub(crate) fn send_all<S: Sink>(commands: &[Command], sink: &mut S) -> Result<u64, Refusal>
-    ensures answer { result ≡ sent_answer (sending S.meaning S.took commands.now sink.old 0) }
-    ensures sink { sink.new ≡ (sending S.meaning S.took commands.now sink.old 0).sink }
+    ensures answer { result ≡ sent_answer (sending S.acts commands.now sink.old 0) }
+    ensures sink { sink.new ≡ (sending S.acts commands.now sink.old 0).sink }
 {
     let mut sent = 0;
     for c in commands {

@@ -49,7 +49,7 @@ fn main(rt: HostRuntime) -> io::Result<()> {
 }
 
 fn curves<K: MathsHost + Drop>(mut host: K, arc: ArcTo, scaled: bool) -> Few
-    ensures { result.items ≡ arc_curves (K.functions host) scaled arc }
+    ensures { result.items ≡ arc_curves (K.acts.functions host) scaled arc }
 {
     arc_curves(arc, scaled, &mut host)
 }

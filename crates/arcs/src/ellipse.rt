@@ -55,8 +55,8 @@ impl Ellipse {
 
     // The curve from one angle to another.
     fn curve_at<K: MathsHost>(self, from: f32, to: f32, host: &mut K) -> Command
-        ensures answer { result ≡ curve_at (K.functions host.old) self from to }
-        ensures host { host.new ≡ all_asked K.asked host.old (curve_questions from to) }
+        ensures answer { result ≡ curve_at (K.acts.functions host.old) self from to }
+        ensures host { host.new ≡ all_asked K.acts.asked host.old (curve_questions from to) }
     {
         let start = round_at(from, host);
         let end = round_at(to, host);
@@ -66,8 +66,8 @@ impl Ellipse {
 
 // The point of the circle of radius 1 at an angle.
 fn round_at<K: MathsHost>(t: f32, host: &mut K) -> Vector
-    ensures answer { result ≡ round_at (K.functions host.old) t }
-    ensures host { host.new ≡ all_asked K.asked host.old (round_questions t) }
+    ensures answer { result ≡ round_at (K.acts.functions host.old) t }
+    ensures host { host.new ≡ all_asked K.acts.asked host.old (round_questions t) }
 {
     let sine = host.sin(t);
     let cosine = host.cos(t);
@@ -75,8 +75,8 @@ fn round_at<K: MathsHost>(t: f32, host: &mut K) -> Vector
 }
 
 fn turned<K: MathsHost>(angle: f32, host: &mut K) -> Turned
-    ensures answer { result ≡ turned_of (K.functions host.old) angle }
-    ensures host { host.new ≡ all_asked K.asked host.old (round_questions angle) }
+    ensures answer { result ≡ turned_of (K.acts.functions host.old) angle }
+    ensures host { host.new ≡ all_asked K.acts.asked host.old (round_questions angle) }
 {
     let Vector { x, y } = round_at(angle, host);
     Turned { sine: y, cosine: x }
@@ -93,8 +93,8 @@ fn has_no_chord(half: Vector) -> bool
 #[inline(always)]
 fn curves_from<K: MathsHost>(ellipse: Ellipse, sweep: Sweep, host: &mut K) -> Few
     requires { sweep.count ≤ 4 }
-    ensures answer { result.items ≡ all_curves sweep.count (K.functions host.old) ellipse sweep.start sweep.each }
-    ensures host { host.new ≡ all_asked K.asked host.old (all_questions sweep.count sweep.start sweep.each) }
+    ensures answer { result.items ≡ all_curves sweep.count (K.acts.functions host.old) ellipse sweep.start sweep.each }
+    ensures host { host.new ≡ all_asked K.acts.asked host.old (all_questions sweep.count sweep.start sweep.each) }
 {
     let mut curves = few(&[]);
     let mut angle = sweep.start;
@@ -109,10 +109,10 @@ fn curves_from<K: MathsHost>(ellipse: Ellipse, sweep: Sweep, host: &mut K) -> Fe
 #[tactic(auto, using(crate::proofs::Round::sweep_few))]
 #[inline(always)]
 fn curves_round<K: MathsHost>(turned_arc: TurnedArc, centred: Centred, host: &mut K) -> Few
-    ensures answer { result.items ≡ round_curves (K.functions host.old) turned_arc.arc turned_arc.turned centred }
-    ensures host { host.new ≡ all_asked K.asked host.old (round_all_questions (K.functions host.old) turned_arc.arc centred) }
+    ensures answer { result.items ≡ round_curves (K.acts.functions host.old) turned_arc.arc turned_arc.turned centred }
+    ensures host { host.new ≡ all_asked K.acts.asked host.old (round_all_questions (K.acts.functions host.old) turned_arc.arc centred) }
     ensures few { (1 ≤ length result.items) × (length result.items ≤ 4) }
-    ensures needed { AsNeeded false (turn_of (K.functions host.old) turned_arc.arc centred) result.items }
+    ensures needed { AsNeeded false (turn_of (K.acts.functions host.old) turned_arc.arc centred) result.items }
 {
     let sweep = find_sweep(turned_arc.arc, centred, host);
     curves_from(Ellipse::new(centred, turned_arc.turned, sweep), sweep, host)
@@ -124,10 +124,10 @@ fn curves_round<K: MathsHost>(turned_arc: TurnedArc, centred: Centred, host: &mu
 #[tactic(auto, unfolding(crate::specs::Curves::arc_curves, crate::specs::Curves::arc_questions))]
 #[inline(always)]
 pub fn arc_curves<K: MathsHost>(arc: ArcTo, scaled: bool, host: &mut K) -> Few
-    ensures answer { result.items ≡ arc_curves (K.functions host.old) scaled arc }
-    ensures host { host.new ≡ all_asked K.asked host.old (arc_questions (K.functions host.old) scaled arc) }
-    ensures few { OneToFour (no_chord (half_chord arc (turned_of (K.functions host.old) arc.angle))) result.items }
-    ensures needed { AsNeeded (no_chord (half_chord arc (turned_of (K.functions host.old) arc.angle))) (turn_of (K.functions host.old) arc (centred_of (K.functions host.old) scaled arc)) result.items }
+    ensures answer { result.items ≡ arc_curves (K.acts.functions host.old) scaled arc }
+    ensures host { host.new ≡ all_asked K.acts.asked host.old (arc_questions (K.acts.functions host.old) scaled arc) }
+    ensures few { OneToFour (no_chord (half_chord arc (turned_of (K.acts.functions host.old) arc.angle))) result.items }
+    ensures needed { AsNeeded (no_chord (half_chord arc (turned_of (K.acts.functions host.old) arc.angle))) (turn_of (K.acts.functions host.old) arc (centred_of (K.acts.functions host.old) scaled arc)) result.items }
 {
     let turned_arc = TurnedArc {
         arc,

@@ -52,8 +52,8 @@ struct Angle {
 }
 
 fn vec_angle<K: MathsHost>(u: Vector, v: Vector, host: &mut K) -> Angle
-    ensures answer { result ≡ vec_angle (K.functions host.old) u v }
-    ensures host { host.new ≡ K.asked host.old ArcCosine (cosine_between u v) }
+    ensures answer { result ≡ vec_angle (K.acts.functions host.old) u v }
+    ensures host { host.new ≡ K.acts.asked host.old ArcCosine (cosine_between u v) }
 {
     let size = host.acos(cosine_between(u, v));
     Angle {
@@ -124,8 +124,8 @@ fn count_of(needed: f32) -> usize
 }
 
 fn bulge<K: MathsHost>(each: f32, host: &mut K) -> f32
-    ensures answer { result ≡ bulge_of (K.functions host.old) each }
-    ensures host { host.new ≡ all_asked K.asked host.old (bulge_questions each) }
+    ensures answer { result ≡ bulge_of (K.acts.functions host.old) each }
+    ensures host { host.new ≡ all_asked K.acts.asked host.old (bulge_questions each) }
 {
     if each == QUARTER {
         QUARTER_BULGE
@@ -137,8 +137,8 @@ fn bulge<K: MathsHost>(each: f32, host: &mut K) -> f32
 }
 
 pub(crate) fn find_sweep<K: MathsHost>(arc: ArcTo, centred: Centred, host: &mut K) -> Sweep
-    ensures answer { result ≡ sweep_of (K.functions host.old) arc centred }
-    ensures host { host.new ≡ all_asked K.asked host.old (sweep_questions (K.functions host.old) arc centred) }
+    ensures answer { result ≡ sweep_of (K.acts.functions host.old) arc centred }
+    ensures host { host.new ≡ all_asked K.acts.asked host.old (sweep_questions (K.acts.functions host.old) arc centred) }
 {
     let start = vec_angle(Vector::new(1.0, 0.0), centred.start, host).signed();
     let turn = vec_angle(centred.start, centred.end, host).turn_by(arc.size, arc.sweep);

@@ -2,7 +2,7 @@
 use Rattle.std.proofs.Common.{◌≡◌, ℕ, zero, suc, ◌+◌, ◌-◌, ◌<◌, ◌≤◌, Bool, true, false, cond, ◌||◌, List, [], ◌∷◌, length, drop, is_some, Some, None, Option, sym, refl, ap, ◌∙◌, add_assoc, arith, drop-drop}
 use Rattle.std.proofs.lemmas.Bool.{cond_both}
 use lib.Ieee.{Float}
-use Rattle.maths.specs.Functions.{Functions}
+use Rattle.maths.specs.Functions.{Functions, HostActs}
 use Rattle.maths.specs.Questions.{all_asked}
 use Rattle.maths.specs.declared.host.Function.{Function}
 use Rattle.maths.proofs.Asking.{asked_append, asked_same}
@@ -101,45 +101,45 @@ takes {S = S} asked cs F m p h {d = d} is some =
     omega (arith, falls F m (drop p cs) (sym some))
 
 -- A call on its way: the host's functions are still F, and enough steps from here do all that the call is to do.
-pub record Going {S : Type 0} (asked : S → Function → Float → S) (functions : S → Functions) (F : Functions) (cs : List Command) (m : Machine) (p : ℕ) (h : S) (all : Done S) : Type 0 where
-  pub same : functions h ≡ F
+pub record Going {S : Type 0} (hosts : HostActs S) (F : Functions) (cs : List Command) (m : Machine) (p : ℕ) (h : S) (all : Done S) : Type 0 where
+  pub same : hosts.functions h ≡ F
   pub count : ℕ
   pub enough : left m (drop p cs) ≤ count
-  pub there : done asked p h (steps count F m (drop p cs)) ≡ all
+  pub there : done hosts.asked p h (steps count F m (drop p cs)) ≡ all
 
-module _ {S : Type 0} (asked : S → Function → Float → S) (functions : S → Functions) where
-  pub begins : {cs : List Command} (m : Machine) (p : ℕ) (h : S) → Going asked functions (functions h) cs m p h (done asked p h (next_of (functions h) m (drop p cs)))
+module _ {S : Type 0} (hosts : HostActs S) where
+  pub begins : {cs : List Command} (m : Machine) (p : ℕ) (h : S) → Going hosts (hosts.functions h) cs m p h (done hosts.asked p h (next_of (hosts.functions h) m (drop p cs)))
   begins {cs = cs} m p h = record { same = refl; count = left m (drop p cs); enough = omega arith; there = refl }
 
-  module _ {F : Functions} {cs : List Command} {m : Machine} {p : ℕ} {h : S} {all d : Done S} (on : Going asked functions F cs m p h all) (is : d ≡ done asked p h (step (functions h) m (drop p cs))) where
-    did : d ≡ done asked p h (step F m (drop p cs))
-    did = is ∙ ap (λ F. done asked p h (step F m (drop p cs))) on.same
+  module _ {F : Functions} {cs : List Command} {m : Machine} {p : ℕ} {h : S} {all d : Done S} (on : Going hosts F cs m p h all) (is : d ≡ done hosts.asked p h (step (hosts.functions h) m (drop p cs))) where
+    did : d ≡ done hosts.asked p h (step F m (drop p cs))
+    did = is ∙ ap (λ F. done hosts.asked p h (step F m (drop p cs))) on.same
 
     -- nothing was to come
     pub ends_idle : false ≡ waits m (drop p cs) → d ≡ all
-    ends_idle none = did ∙ ap (done asked p h) (idle F m (drop p cs) (sym none) ∙ sym (steps_idle F on.count m (drop p cs) (sym none))) ∙ on.there
+    ends_idle none = did ∙ ap (done hosts.asked p h) (idle F m (drop p cs) (sym none) ∙ sym (steps_idle F on.count m (drop p cs) (sym none))) ∙ on.there
 
     -- a step gave something
     pub ends_given : true ≡ waits m (drop p cs) → is_some d.gave ≡ true → d ≡ all
     ends_given some given =
-        let less = takes asked cs (functions h) m p h is some in
+        let less = takes hosts.asked cs (hosts.functions h) m p h is some in
         let gave : is_some (step F m (drop p cs)).made.gave ≡ true = sym (ap (λ (d : Done S). is_some d.gave) did) ∙ given in
-        did ∙ ap (done asked p h) (sym (given_first F on.count m (drop p cs) (omega (arith, less, on.enough)) gave)) ∙ on.there
+        did ∙ ap (done hosts.asked p h) (sym (given_first F on.count m (drop p cs) (omega (arith, less, on.enough)) gave)) ∙ on.there
 
     -- a step gave nothing: what follows does the rest
-    pub goes_on : ((s : S) (f : Function) (x : Float) → functions (asked s f x) ≡ functions s) → true ≡ waits m (drop p cs) → is_some d.gave ≡ false → Going asked functions F cs d.after d.place d.host all
+    pub goes_on : ((s : S) (f : Function) (x : Float) → hosts.functions (hosts.asked s f x) ≡ hosts.functions s) → true ≡ waits m (drop p cs) → is_some d.gave ≡ false → Going hosts F cs d.after d.place d.host all
     goes_on kept some skipped =
-        let less = takes asked cs (functions h) m p h is some in
+        let less = takes hosts.asked cs (hosts.functions h) m p h is some in
         let x = step F m (drop p cs) in
         let gave : is_some x.made.gave ≡ false = sym (ap (λ (d : Done S). is_some d.gave) did) ∙ skipped in
         let n = on.count - 1 in
         let count : on.count ≡ suc n = omega (arith, less, on.enough) in
-        let rest : List Command → Done S = λ l. done asked (p + x.taken) (all_asked asked h x.asked) (steps n F x.made.after l) in
+        let rest : List Command → Done S = λ l. done hosts.asked (p + x.taken) (all_asked hosts.asked h x.asked) (steps n F x.made.after l) in
         record {
-          same = ap (λ (d : Done S). functions d.host) did ∙ asked_same asked functions kept h x.asked ∙ on.same;
+          same = ap (λ (d : Done S). hosts.functions d.host) did ∙ asked_same hosts kept h x.asked ∙ on.same;
           count = n;
           enough = omega (arith, less, on.enough);
-          there = ap (λ (d : Done S). done asked d.place d.host (steps n F d.after (drop d.place cs))) did ∙ ap rest (sym (drop-drop x.taken p cs))
-              ∙ sym (done_followed asked p h x (steps n F x.made.after (drop x.taken (drop p cs)))) ∙ sym (ap (done asked p h) (skipped_first F n m (drop p cs) gave))
-              ∙ ap (λ n. done asked p h (steps n F m (drop p cs))) (sym count) ∙ on.there;
+          there = ap (λ (d : Done S). done hosts.asked d.place d.host (steps n F d.after (drop d.place cs))) did ∙ ap rest (sym (drop-drop x.taken p cs))
+              ∙ sym (done_followed hosts.asked p h x (steps n F x.made.after (drop x.taken (drop p cs)))) ∙ sym (ap (done hosts.asked p h) (skipped_first F n m (drop p cs) gave))
+              ∙ ap (λ n. done hosts.asked p h (steps n F m (drop p cs))) (sym count) ∙ on.there;
         }

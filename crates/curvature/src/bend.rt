@@ -9,8 +9,8 @@ use maths::host::MathsHost;
 
 /// The times at which a curve bends most or least, from 0 to 1.
 pub fn max_curvature<K: MathsHost>(curve: Curve, host: &mut K) -> Roots
-    ensures answer { result ≡ bends (K.functions host.old) curve }
-    ensures host { host.new ≡ all_asked K.asked host.old (bend_questions (K.functions host.old) curve) }
+    ensures answer { result ≡ bends (K.acts.functions host.old) curve }
+    ensures host { host.new ≡ all_asked K.acts.asked host.old (bend_questions (K.acts.functions host.old) curve) }
     ensures within { RootsWithin result }
 {
     solve(bend(curve), host)

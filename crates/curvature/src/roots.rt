@@ -24,8 +24,8 @@ struct Reduced {
 /// The roots of the cubic with these coefficients, highest first, each kept within 0 and 1.
 #[tactic(auto, using(crate::proofs::Within::roots_within))]
 pub fn solve<K: MathsHost>(coeff: [f32; 4], host: &mut K) -> Roots
-    ensures answer { result ≡ roots (K.functions host.old) coeff }
-    ensures host { host.new ≡ all_asked K.asked host.old (questions (K.functions host.old) coeff) }
+    ensures answer { result ≡ roots (K.acts.functions host.old) coeff }
+    ensures host { host.new ≡ all_asked K.acts.asked host.old (questions (K.acts.functions host.old) coeff) }
     ensures within { RootsWithin result }
 {
     Reduced::new(coeff).roots(host)
@@ -49,8 +49,8 @@ impl Reduced {
     }
 
     fn roots<K: MathsHost>(self, host: &mut K) -> Roots
-        ensures answer { result ≡ roots_of (K.functions host.old) self }
-        ensures host { host.new ≡ all_asked K.asked host.old (questions_of (K.functions host.old) self) }
+        ensures answer { result ≡ roots_of (K.acts.functions host.old) self }
+        ensures host { host.new ≡ all_asked K.acts.asked host.old (questions_of (K.acts.functions host.old) self) }
     {
         if self.has_three_roots() {
             self.three_roots(host)
@@ -68,9 +68,9 @@ impl Reduced {
     // The root at a third of an angle. As with the next, that the functions stay is said for the question
     // that follows; the law says it of one question at a time.
     fn turned<K: MathsHost>(self, angle: f32, host: &mut K) -> f32
-        ensures answer { result ≡ turned (K.functions host.old) self angle }
-        ensures host { host.new ≡ K.asked host.old Cosine (angle ⊘ three) }
-        ensures same { K.functions host.new ≡ K.functions host.old }
+        ensures answer { result ≡ turned (K.acts.functions host.old) self angle }
+        ensures host { host.new ≡ K.acts.asked host.old Cosine (angle ⊘ three) }
+        ensures same { K.acts.functions host.new ≡ K.acts.functions host.old }
     {
         let cosine = host.cos(angle / 3.0);
         satf32(-2.0 * sqrt(self.q) * cosine - self.a / 3.0)
@@ -78,16 +78,16 @@ impl Reduced {
 
     // The angle at whose thirds the three roots are.
     fn theta<K: MathsHost>(self, host: &mut K) -> f32
-        ensures answer { result ≡ (K.functions host.old).arc_cosine (cosine_asked self) }
-        ensures host { host.new ≡ K.asked host.old ArcCosine (cosine_asked self) }
-        ensures same { K.functions host.new ≡ K.functions host.old }
+        ensures answer { result ≡ (K.acts.functions host.old).arc_cosine (cosine_asked self) }
+        ensures host { host.new ≡ K.acts.asked host.old ArcCosine (cosine_asked self) }
+        ensures same { K.acts.functions host.new ≡ K.acts.functions host.old }
     {
         host.acos(self.cosine())
     }
 
     fn three_roots<K: MathsHost>(self, host: &mut K) -> Roots
-        ensures answer { result ≡ trisected (K.functions host.old) self }
-        ensures host { host.new ≡ all_asked K.asked host.old (three_questions (K.functions host.old) self) }
+        ensures answer { result ≡ trisected (K.acts.functions host.old) self }
+        ensures host { host.new ≡ all_asked K.acts.asked host.old (three_questions (K.acts.functions host.old) self) }
     {
         let theta = self.theta(host);
         let x = self.turned(theta, host);
@@ -97,8 +97,8 @@ impl Reduced {
     }
 
     fn one_root<K: MathsHost>(self, host: &mut K) -> Roots
-        ensures answer { result ≡ only_root (K.functions host.old) self }
-        ensures host { host.new ≡ all_asked K.asked host.old (one_question self) }
+        ensures answer { result ≡ only_root (K.acts.functions host.old) self }
+        ensures host { host.new ≡ all_asked K.acts.asked host.old (one_question self) }
     {
         let size = host.powf_third(self.power_argument());
         FixedList::filled(0.0, &[self.from_power(size)])

@@ -89,9 +89,9 @@ impl<'a> Dasher<'a> {
     /// One dash or gap more along the run that the storage holds. A walk that stands on no segment of it
     /// is over.
     pub fn next<B: Storage>(&mut self, storage: &B) -> DashOp
-        ensures op { result ≡ (next_of (values self.old.pattern) (B.held storage.now) self.old.walk).op }
-        ensures after { self.new ≡ record { pattern = self.old.pattern; walk = (next_of (values self.old.pattern) (B.held storage.now) self.old.walk).after } }
-        ensures within { GivesWithin (length (B.held storage.now)) result }
+        ensures op { result ≡ (next_of (values self.old.pattern) (B.acts.held storage.now) self.old.walk).op }
+        ensures after { self.new ≡ record { pattern = self.old.pattern; walk = (next_of (values self.old.pattern) (B.acts.held storage.now) self.old.walk).after } }
+        ensures within { GivesWithin (length (B.acts.held storage.now)) result }
         ensures in_place { InPlace (values self.old.pattern) self.old.walk → InPlace (values self.new.pattern) self.new.walk }
     {
         let next = self.walk.next(self.pattern, storage);

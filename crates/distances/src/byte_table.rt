@@ -26,9 +26,7 @@ impl<'a> ByteTable<'a> {
 }
 
 impl<'a> MathsHost for ByteTable<'a> {
-    ghost functions = { λ s. tabled (rows_in s.bytes.now) };
-
-    ghost asked = { λ s _ _. s };
+    ghost acts = { record { functions = λ s. tabled (rows_in s.bytes.now); asked = λ s _ _. s } };
 
     ghost same = { λ s f x. refl };
 

@@ -89,8 +89,8 @@ pub fn one_more(n: u64, counts: bool) -> u64
 
 /// The figures of a host's answers to the rows of one function.
 pub fn replayed<K: MathsHost>(host: &mut K, f: Function, rows: &[Row]) -> Figures
-    ensures value { result ≡ replayed (K.functions host.old) f rows.now no_figures }
-    ensures host { host.new ≡ over (row_asked K.asked f) rows.now host.old }
+    ensures value { result ≡ replayed (K.acts.functions host.old) f rows.now no_figures }
+    ensures host { host.new ≡ over (row_asked K.acts.asked f) rows.now host.old }
 {
     let mut figures = Figures::new();
     for row in rows {
@@ -101,9 +101,9 @@ pub fn replayed<K: MathsHost>(host: &mut K, f: Function, rows: &[Row]) -> Figure
 
 // That the functions stay is said for the next row; the law says it of one question at a time.
 fn with_row<K: MathsHost>(host: &mut K, f: Function, row: Row, figures: Figures) -> Figures
-    ensures value { result ≡ with_row (K.functions host.old) f row figures }
-    ensures host { host.new ≡ row_asked K.asked f row host.old }
-    ensures same { K.functions host.new ≡ K.functions host.old }
+    ensures value { result ≡ with_row (K.acts.functions host.old) f row figures }
+    ensures host { host.new ≡ row_asked K.acts.asked f row host.old }
+    ensures same { K.acts.functions host.new ≡ K.acts.functions host.old }
 {
     if row.function != u8::from(f) {
         return figures;

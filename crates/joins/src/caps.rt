@@ -24,8 +24,8 @@ fn square(radius: f32, turn: Turn) -> Few
 
 /// The commands of a cap, from one side of a stroke across to the other.
 pub fn cap_commands<K: MathsHost>(shape: Cap, radius: f32, turn: Turn, host: &mut K) -> Few
-    ensures answer { result.items ≡ cap_commands (K.functions host.old) shape radius turn }
-    ensures host { host.new ≡ all_asked K.asked host.old (cap_questions (K.functions host.old) shape radius turn) }
+    ensures answer { result.items ≡ cap_commands (K.acts.functions host.old) shape radius turn }
+    ensures host { host.new ≡ all_asked K.acts.asked host.old (cap_questions (K.acts.functions host.old) shape radius turn) }
 {
     match shape {
         Cap::Butt => few(&[Command::LineTo(turn.to)]),

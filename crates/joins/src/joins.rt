@@ -13,8 +13,8 @@ use pen::nib::Nib;
 /// The commands of a join, by what shapes its corner: with a nib, which a whole stroke shares, at a turn.
 #[inline(always)]
 pub fn join<K: MathsHost>(nib: Nib, turn: Turn, host: &mut K) -> Few
-    ensures answer { result.items ≡ join_commands (K.functions host.old) nib turn }
-    ensures host { host.new ≡ all_asked K.asked host.old (join_questions (K.functions host.old) nib turn) }
+    ensures answer { result.items ≡ join_commands (K.acts.functions host.old) nib turn }
+    ensures host { host.new ≡ all_asked K.acts.asked host.old (join_questions (K.acts.functions host.old) nib turn) }
 {
     shape(Corner::between(nib, turn), nib, turn, host)
 }
@@ -22,8 +22,8 @@ pub fn join<K: MathsHost>(nib: Nib, turn: Turn, host: &mut K) -> Few
 /// The commands between two pieces of one curve: round where the stroke turns to this side.
 #[inline(always)]
 pub fn split_join<K: MathsHost>(nib: Nib, turn: Turn, host: &mut K) -> Few
-    ensures answer { result.items ≡ shaped (K.functions host.old) (split_corner turn) nib turn }
-    ensures host { host.new ≡ all_asked K.asked host.old (shaped_questions (K.functions host.old) (split_corner turn) nib turn) }
+    ensures answer { result.items ≡ shaped (K.acts.functions host.old) (split_corner turn) nib turn }
+    ensures host { host.new ≡ all_asked K.acts.asked host.old (shaped_questions (K.acts.functions host.old) (split_corner turn) nib turn) }
 {
     shape(split_corner(turn), nib, turn, host)
 }
@@ -42,8 +42,8 @@ fn split_corner(turn: Turn) -> Corner
 
 #[inline(always)]
 fn shape<K: MathsHost>(corner: Corner, nib: Nib, turn: Turn, host: &mut K) -> Few
-    ensures answer { result.items ≡ shaped (K.functions host.old) corner nib turn }
-    ensures host { host.new ≡ all_asked K.asked host.old (shaped_questions (K.functions host.old) corner nib turn) }
+    ensures answer { result.items ≡ shaped (K.acts.functions host.old) corner nib turn }
+    ensures host { host.new ≡ all_asked K.acts.asked host.old (shaped_questions (K.acts.functions host.old) corner nib turn) }
 {
     let to = Command::LineTo(turn.to);
     match corner {

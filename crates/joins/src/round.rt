@@ -25,8 +25,8 @@ fn half_circle(radius: f32, turn: Turn) -> ArcTo
 
 #[inline(always)]
 pub(crate) fn round<K: MathsHost>(radius: f32, turn: Turn, host: &mut K) -> Few
-    ensures answer { result.items ≡ round_commands (K.functions host.old) radius turn }
-    ensures host { host.new ≡ all_asked K.asked host.old (round_questions (K.functions host.old) radius turn) }
+    ensures answer { result.items ≡ round_commands (K.acts.functions host.old) radius turn }
+    ensures host { host.new ≡ all_asked K.acts.asked host.old (round_questions (K.acts.functions host.old) radius turn) }
 {
     arc_curves(half_circle(radius, turn), false, host)
 }

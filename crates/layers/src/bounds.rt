@@ -49,9 +49,10 @@ impl<S: Sink> Bounds<S> {
 }
 
 impl<S: Sink> Sink for Bounds<S> {
-    ghost meaning = { λ s. S.meaning s.inner };
-
-    ghost took = { λ s c. record { inner = S.took s.inner c; bounds = spreads s.bounds (points c) } };
+    ghost acts = { record {
+      meaning = λ s. S.acts.meaning s.inner;
+      took = λ s c. record { inner = S.acts.took s.inner c; bounds = spreads s.bounds (points c) };
+    } };
 
     ghost kept = { λ s c. S.kept s.inner c };
 

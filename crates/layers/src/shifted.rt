@@ -51,15 +51,16 @@ fn shift(by: Vector, c: Command) -> Command
 }
 
 impl<S: Sink> Sink for Shifted<S> {
-    ghost meaning = { λ s. shifted s.by (S.meaning s.inner) };
-
-    ghost took = { λ s c. record { inner = S.took s.inner (moved s.by c); by = s.by } };
+    ghost acts = { record {
+      meaning = λ s. shifted s.by (S.acts.meaning s.inner);
+      took = λ s c. record { inner = S.acts.took s.inner (moved s.by c); by = s.by };
+    } };
 
     ghost kept = { λ s c. S.kept s.inner (moved s.by c) ∙ kind_moved s.by c };
 
     ghost grows = { λ s c fits.
-        ap (shifted s.by) (S.grows s.inner (moved s.by c) (shifted_takes s.by (S.meaning s.inner) c fits))
-        ∙ shifted_joined s.by (S.meaning s.inner) c };
+        ap (shifted s.by) (S.grows s.inner (moved s.by c) (shifted_takes s.by (S.acts.meaning s.inner) c fits))
+        ∙ shifted_joined s.by (S.acts.meaning s.inner) c };
 
     fn send(&mut self, c: Command) -> Result<(), Refused> {
         self.inner.send(shift(self.by, c))

@@ -1,5 +1,5 @@
 -- Texts written one after the other.
-use Rattle.std.proofs.Common.{◌≡◌, ℕ, ◌-◌, ◌≤◌, List, [], ◌∷◌, ◌++◌, length, take, drop, Option, Result, Ok, Err, refl, sym, ap, ◌∙◌, subst, append_assoc, append-nil, take-append-drop}
+use Rattle.std.proofs.Common.{◌≡◌, ℕ, ◌-◌, ◌≤◌, List, [], ◌∷◌, ◌++◌, length, take, drop, Some, None, Option, Result, IfSome, Ok, Err, refl, sym, ap, ◌∙◌, subst, append_assoc, append-nil, take-append-drop}
 use Rattle.std.proofs.lemmas.List.{take_rest}
 use Rattle.std.specs.Io.KnownBytes.{Appends, Keeps}
 use Rattle.std.proofs.KnownBytes.{Appends-nil, Appends-trans, Appends-kept}
@@ -58,3 +58,14 @@ lines_after a b c ks ls r first then = subst (Writes a c r) (sym (text_both ks l
 -- the first of them not whole
 pub first_failed : {E : Type 0} (a b : Option (List ℕ)) (ks ls : List Line) (r : Result (Unit {0}) E) → IsErr r → GrowsByFront a b (text_of ks) → Writes a b r (text_of (ks ++ ls))
 first_failed a b ks ls r is front = failed a b _ r is (subst (GrowsByFront a b) (sym (text_both ks ls)) (front_of_first a b _ _ front))
+
+-- nothing was written where reading failed
+pub unread : {E : Type 0} (known a : Option (List ℕ)) (text : List ℕ → List ℕ) (r : Result (Unit {0}) E) → IsErr r → IfSome known (λ bytes. Writes a a r (text bytes))
+unread None a text r is = tt
+unread (Some bytes) a text r is = failed a a (text bytes) r is (none_yet a (text bytes))
+
+-- what was written is by what was read
+pub by_read : {E : Type 0} (known a b : Option (List ℕ)) (most : ℕ) (text : List ℕ → List ℕ) (bs : List ℕ) (r : Result (Unit {0}) E)
+    → IfSome known (λ bytes. bs ≡ take most bytes) → Writes a b r (text bs) → IfSome known (λ bytes. Writes a b r (text (take most bytes)))
+by_read None a b most text bs r read written = tt
+by_read (Some bytes) a b most text bs r read written = subst (λ l. Writes a b r (text l)) read written

@@ -19,6 +19,15 @@ apply fs ArcCosine x = fs.arc_cosine x
 apply fs Tangent x = fs.tangent x
 apply fs Power x = fs.power x
 
+-- What a host does: the functions that it answers by, and the whole host after a question.
+pub record HostActs (K : Type 0) : Type 0 where
+  pub functions : K → Functions
+  pub asked : K → Function → Float → K
+
+-- a host that is nothing but its functions
+abbrev pub no_host : Functions → HostActs (Unit {0})
+no_host F = record { functions = λ k. F; asked = λ k f x. k }
+
 -- the five functions of one that takes the function's name
 abbrev pub gathered : (Function → Float → Float) → Functions
 gathered g = record { sine = g Sine; cosine = g Cosine; arc_cosine = g ArcCosine; tangent = g Tangent; power = g Power }

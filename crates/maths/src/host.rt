@@ -2,7 +2,7 @@ ghost use Rattle.std.specs.Prelude.{◌≡◌, [], ◌∷◌, Float, Some};
 ghost use Rattle.std.specs.Float.{nan};
 ghost use Rattle.maths.specs.declared.host.Function.{Function};
 ghost use Rattle.maths.specs.declared.host.Function.TheVariants.{Sine, Cosine, ArcCosine, Tangent, Power};
-ghost use Rattle.maths.specs.Functions.{Functions, apply, numbered, function_name, in_range, Angle, restricted, AlikeAreEqual};
+ghost use Rattle.maths.specs.Functions.{HostActs, apply, numbered, function_name, in_range, Angle, restricted, AlikeAreEqual};
 
 use std::fmt;
 
@@ -71,59 +71,56 @@ fn alike_stands()
 /// What asks a host says what it answers and what the host is afterwards, each by a definition of its
 /// own, so a type has no fact of both to hold.
 pub trait MathsHost {
-    ghost functions: { Self → Functions };
-
-    // the whole host after a question
-    ghost asked: { Self → Function → Float → Self };
+    ghost acts: { HostActs Self };
 
     /// What a function answers; the other methods ask by it.
     fn ask(&mut self, f: Function, x: f32) -> f32
-        ensures answer { result ≡ apply (functions self.old) f x }
-        ensures after { self.new ≡ asked self.old f x };
+        ensures answer { result ≡ apply (acts.functions self.old) f x }
+        ensures after { self.new ≡ acts.asked self.old f x };
 
     // Five methods that differ in a constant: the port keeps the Rust's names.
     fn sin(&mut self, x: f32) -> f32
-        ensures answer { result ≡ (functions self.old).sine x }
-        ensures after { self.new ≡ asked self.old Sine x }
+        ensures answer { result ≡ (acts.functions self.old).sine x }
+        ensures after { self.new ≡ acts.asked self.old Sine x }
     {
         self.ask(Function::Sine, x)
     }
 
     fn cos(&mut self, x: f32) -> f32
-        ensures answer { result ≡ (functions self.old).cosine x }
-        ensures after { self.new ≡ asked self.old Cosine x }
+        ensures answer { result ≡ (acts.functions self.old).cosine x }
+        ensures after { self.new ≡ acts.asked self.old Cosine x }
     {
         self.ask(Function::Cosine, x)
     }
 
     fn acos(&mut self, x: f32) -> f32
-        ensures answer { result ≡ (functions self.old).arc_cosine x }
-        ensures after { self.new ≡ asked self.old ArcCosine x }
+        ensures answer { result ≡ (acts.functions self.old).arc_cosine x }
+        ensures after { self.new ≡ acts.asked self.old ArcCosine x }
     {
         self.ask(Function::ArcCosine, x)
     }
 
     fn tan(&mut self, x: f32) -> f32
-        ensures answer { result ≡ (functions self.old).tangent x }
-        ensures after { self.new ≡ asked self.old Tangent x }
+        ensures answer { result ≡ (acts.functions self.old).tangent x }
+        ensures after { self.new ≡ acts.asked self.old Tangent x }
     {
         self.ask(Function::Tangent, x)
     }
 
     /// The power with the exponent 0.3333333.
     fn powf_third(&mut self, x: f32) -> f32
-        ensures answer { result ≡ (functions self.old).power x }
-        ensures after { self.new ≡ asked self.old Power x }
+        ensures answer { result ≡ (acts.functions self.old).power x }
+        ensures after { self.new ≡ acts.asked self.old Power x }
     {
         self.ask(Function::Power, x)
     }
 
-    ghost same: { (s : Self) (f : Function) (x : Float) → functions (asked s f x) ≡ functions s };
+    ghost same: { (s : Self) (f : Function) (x : Float) → acts.functions (acts.asked s f x) ≡ acts.functions s };
 
-    ghost ranged: { (s : Self) (x : Float) → Angle ((functions s).arc_cosine x) };
+    ghost ranged: { (s : Self) (x : Float) → Angle ((acts.functions s).arc_cosine x) };
 
     // the functions are of f32: at any other float they are NaN
-    ghost narrow: { (s : Self) → restricted (functions s) ≡ functions s };
+    ghost narrow: { (s : Self) → restricted (acts.functions s) ≡ acts.functions s };
 }
 
 /// 3.1415927, the greatest arc cosine.

@@ -34,9 +34,7 @@ fn special_stands()
 {}
 
 impl MathsHost for SeriesHost {
-    ghost functions = { λ _. restricted series };
-
-    ghost asked = { λ s _ _. s };
+    ghost acts = { record { functions = λ _. restricted series; asked = λ s _ _. s } };
 
     ghost same = { λ s f x. refl };
 

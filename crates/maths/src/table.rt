@@ -52,9 +52,7 @@ impl<'a> TableHost<'a> {
 }
 
 impl<'a> MathsHost for TableHost<'a> {
-    ghost functions = { λ s. tabled s.rows.now };
-
-    ghost asked = { λ s _ _. s };
+    ghost acts = { record { functions = λ s. tabled s.rows.now; asked = λ s _ _. s } };
 
     ghost same = { λ s f x. refl };
 

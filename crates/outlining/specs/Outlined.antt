@@ -1,15 +1,15 @@
 -- What the program `outline` prints of a job.
 use Rattle.std.specs.Prelude.{ℕ, List, [], take}
-use Rattle.maths.specs.Functions.{restricted, Functions}
+use Rattle.maths.specs.Functions.{restricted, Functions, no_host}
 use Rattle.maths.specs.Series.{series}
-use Rattle.sinks.specs.Meaning.{Meaning, joined}
+use Rattle.sinks.specs.Meaning.{Meaning, meaning_acts}
+use Rattle.storage.specs.Meaning.{held_acts, Held, empty_held}
 use Rattle.job.specs.Sayings.{Said, said_by}
 use Rattle.lines.specs.declared.line.Line.{Line}
 use Rattle.lines.specs.Listing.{reported}
 use Rattle.lines.specs.Printing.{text_of}
 use Rattle.dashes.specs.StepCounts.{most_steps}
-use Rattle.stroke.specs.Histories.{Held, empty_held, stroked_held}
-use Rattle.stroke.specs.Outcomes.{Outcome as Stroked}
+use Rattle.stroke.specs.Outcomes.{Outcome as Stroked, stroked}
 use Rattle.outlining.specs.Drawn.{drawn_lines}
 
 -- an empty list of so many places
@@ -19,7 +19,7 @@ empty_list places = record { list = []; units = places; price = λ k. 1; map = �
 -- a job stroked by five functions into so many places
 abbrev pub stroked_job : Functions → ℕ → ℕ → ℕ → Said → Stroked Meaning Held (Unit {0})
 stroked_job F segments places budget j =
-    stroked_held (λ m. m) joined (λ k f x. k) budget F j.commands j.style j.dashes (empty_list places) (empty_held segments) tt
+    stroked meaning_acts held_acts (no_host F) budget F j.commands j.style j.dashes (empty_list places) (empty_held segments) tt
 
 abbrev pub lines_of : Stroked Meaning Held (Unit {0}) → List Line
 lines_of x = drawn_lines x.sink.list x.answer
@@ -29,5 +29,5 @@ abbrev pub stroked_lines : Said → List Line
 stroked_lines j = lines_of (stroked_job (restricted series) 128 1024 most_steps j)
 
 -- what is printed where these bytes are read
-abbrev pub outline_of : List ℕ → List ℕ
+unfoldable pub outline_of : List ℕ → List ℕ
 outline_of bytes = text_of (reported stroked_lines (said_by 512 32 (take 8192 bytes)))

@@ -20,5 +20,5 @@ replayed_by (Ok s) = text_of (reported (replayed_lines s) (said_by 4096 32 s.job
 replayed_by (Err why) = message why ++ (10 ∷ [])
 
 -- what is printed of these bytes
-abbrev pub replay_of : List ℕ → List ℕ
+unfoldable pub replay_of : List ℕ → List ℕ
 replay_of bytes = replayed_by (setting_of bytes)

@@ -23,6 +23,7 @@ const PLACES: usize = 1024;
 ///
 /// Of the bytes the first 8,192 are read, and those after them stay unread. Where it fails a front of
 /// the text was written.
+#[tactic(auto, unfolding(crate::specs::Outlined::outline_of))]
 pub fn outline<R: Read, W: Write>(reader: &mut R, writer: &mut W) -> io::Result<()>
     ensures text { IfSome (R.remaining reader.old) (λ bytes. Writes (W.contents writer.old) (W.contents writer.new) result (outline_of bytes)) }
     ensures left { OnOk result (IfSome (R.remaining reader.old) (λ bytes. R.remaining reader.new ≡ Some (drop 8192 bytes))) }

@@ -42,6 +42,7 @@ pub fn replay<R: Read, W: Write>(heap: Global, reader: &mut R, writer: &mut W) -
 
 /// Replays the setting that the bytes tell, or prints why they tell none. Where it fails, also for want
 /// of memory, a front of the text was written.
+#[tactic(auto, unfolding(crate::specs::Replayed::replay_of))]
 pub fn replay_bytes<W: Write>(heap: Global, writer: &mut W, bytes: &[u8]) -> io::Result<()>
     ensures { Writes (W.contents writer.old) (W.contents writer.new) result (replay_of bytes.now) }
 {
@@ -55,7 +56,7 @@ pub fn replay_bytes<W: Write>(heap: Global, writer: &mut W, bytes: &[u8]) -> io:
 /// commands that were sent and of the answer. A job that is refused is not stroked, and its refusal is
 /// printed alone. Where it fails, also for want of memory, a front of the text was written.
 pub fn replay_setting<W: Write>(heap: Global, writer: &mut W, setting: Setting) -> io::Result<()>
-    ensures { Writes (W.contents writer.old) (W.contents writer.new) result (text_of (reported (replayed_lines (values setting)) (said_by 4096 32 setting.job.now))) }
+    ensures { Writes (W.contents writer.old) (W.contents writer.new) result (text_of (reported (replayed_lines (values setting.entry)) (said_by 4096 32 setting.entry.job.now))) }
 {
     let mut commands = vec![in heap; Command::Close; MOST_COMMANDS]?;
     let mut dashes = [0.0; MOST_DASHES];
@@ -72,7 +73,7 @@ fn replay_job<W: Write>(
     setting: Setting,
     job: &Job,
 ) -> io::Result<()>
-    ensures { Writes (W.contents writer.old) (W.contents writer.new) result (text_of (replayed_lines (values setting) (accepted job.now))) }
+    ensures { Writes (W.contents writer.old) (W.contents writer.new) result (text_of (replayed_lines (values setting.entry) (accepted job.now))) }
 {
     let mut places = vec![in heap; Command::Close; setting.places]?;
     let mut segments = vec![in heap; Segment::End(false); setting.segments]?;

@@ -15,8 +15,8 @@ use maths::host::MathsHost;
 /// The curve cut where it bends most, strictly inside: one to four pieces.
 #[tactic(auto, using(crate::proofs::Few::between_cuts_few))]
 pub fn split_at_max_curvature<K: MathsHost>(curve: Curve, host: &mut K) -> FixedList<Curve, 4>
-    ensures answer { result.items ≡ between_cuts (K.functions host.old) curve }
-    ensures host { host.new ≡ all_asked K.asked host.old (bend_questions (K.functions host.old) curve) }
+    ensures answer { result.items ≡ between_cuts (K.acts.functions host.old) curve }
+    ensures host { host.new ≡ all_asked K.acts.asked host.old (bend_questions (K.acts.functions host.old) curve) }
     ensures few { (1 ≤ length result.items) × (length result.items ≤ 4) }
 {
     cut_at(curve, max_curvature(curve, host))
@@ -85,8 +85,8 @@ fn halve_all(splits: FixedList<Curve, 4>) -> Pieces
 /// The pieces of a curve: cut where it bends most, each piece halved at most twice; a curve with two
 /// short legs is left whole, and the host is not asked. There are one to 16 pieces.
 pub fn split_curve<K: MathsHost>(curve: Curve, host: &mut K) -> Pieces
-    ensures answer { result.items ≡ cut_up (K.functions host.old) curve }
-    ensures host { host.new ≡ all_asked K.asked host.old (cut_questions (K.functions host.old) curve) }
+    ensures answer { result.items ≡ cut_up (K.acts.functions host.old) curve }
+    ensures host { host.new ≡ all_asked K.acts.asked host.old (cut_questions (K.acts.functions host.old) curve) }
     ensures few { (1 ≤ length result.items) × (length result.items ≤ 16) }
 {
     if curve.is_line(MERGE_EPSILON) {

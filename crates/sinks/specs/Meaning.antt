@@ -21,6 +21,15 @@ joined m c = record { list = m.list ++ (m.map c ∷ []); units = m.units - m.pri
 abbrev pub verdict : Meaning → Command → Result (Unit {0}) Refused
 verdict m c = cond (takes m c) (Ok tt) (Err (record {}))
 
+-- What a sink does: what it means, and the whole sink with a command taken.
+pub record SinkActs (S : Type 0) : Type 0 where
+  pub meaning : S → Meaning
+  pub took : S → Command → S
+
+-- a sink that is nothing but its meaning
+abbrev pub meaning_acts : SinkActs Meaning
+meaning_acts = record { meaning = λ m. m; took = joined }
+
 -- a sink after it was sent a command: the one with the command taken, or as it was
-abbrev pub after : {S : Type 0} → (S → Meaning) → (S → Command → S) → S → Command → S
-after meaning took s c = cond (takes (meaning s) c) (took s c) s
+abbrev pub after : {S : Type 0} → SinkActs S → S → Command → S
+after acts s c = cond (takes (acts.meaning s) c) (acts.took s c) s

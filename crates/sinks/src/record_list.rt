@@ -33,9 +33,10 @@ impl<'a> RecordList<'a> {
 }
 
 impl<'a> Sink for RecordList<'a> {
-    ghost meaning = { λ s. recorded s.lent };
-
-    ghost took = { λ s c. record { lent = pushed s.lent c } };
+    ghost acts = { record {
+      meaning = λ s. recorded s.lent;
+      took = λ s c. record { lent = pushed s.lent c };
+    } };
 
     ghost kept = { λ s c. refl };
 

@@ -3,7 +3,7 @@ ghost use Rattle.std.specs.List.{slice_get};
 ghost use Rattle.path.specs.declared.command.Command.{Command};
 ghost use Rattle.path.specs.declared.command.Command.TheVariants.{MoveTo, LineTo, CurveTo, Close};
 ghost use Rattle.path.specs.Kinds.{kind};
-ghost use Rattle.sinks.specs.Meaning.{Meaning, takes, joined, verdict, after};
+ghost use Rattle.sinks.specs.Meaning.{SinkActs, takes, joined, verdict, after};
 
 use path::command::Command;
 use path::geometry::Point;
@@ -17,55 +17,52 @@ pub struct Refused;
 /// map are fixed, and the map keeps a command's kind. A command is refused exactly where its price
 /// exceeds the units left, and the sink is unaltered then.
 pub trait Sink {
-    ghost meaning: { Self → Meaning };
-
-    // the whole sink with a command taken
-    ghost took: { Self → Command → Self };
+    ghost acts: { SinkActs Self };
 
     fn send(&mut self, c: Command) -> Result<(), Refused>
-        ensures answer { result ≡ verdict (meaning self.old) c }
-        ensures after { self.new ≡ after meaning took self.old c };
+        ensures answer { result ≡ verdict (acts.meaning self.old) c }
+        ensures after { self.new ≡ after acts self.old c };
 
     // The Rust's four calls, each of its own command.
     fn move_to(&mut self, p: Point) -> Result<(), Refused>
-        ensures answer { result ≡ verdict (meaning self.old) (MoveTo p) }
-        ensures after { self.new ≡ after meaning took self.old (MoveTo p) }
+        ensures answer { result ≡ verdict (acts.meaning self.old) (MoveTo p) }
+        ensures after { self.new ≡ after acts self.old (MoveTo p) }
     {
         self.send(Command::MoveTo(p))
     }
 
     fn line_to(&mut self, p: Point) -> Result<(), Refused>
-        ensures answer { result ≡ verdict (meaning self.old) (LineTo p) }
-        ensures after { self.new ≡ after meaning took self.old (LineTo p) }
+        ensures answer { result ≡ verdict (acts.meaning self.old) (LineTo p) }
+        ensures after { self.new ≡ after acts self.old (LineTo p) }
     {
         self.send(Command::LineTo(p))
     }
 
     fn curve_to(&mut self, a: Point, b: Point, p: Point) -> Result<(), Refused>
-        ensures answer { result ≡ verdict (meaning self.old) (CurveTo a b p) }
-        ensures after { self.new ≡ after meaning took self.old (CurveTo a b p) }
+        ensures answer { result ≡ verdict (acts.meaning self.old) (CurveTo a b p) }
+        ensures after { self.new ≡ after acts self.old (CurveTo a b p) }
     {
         self.send(Command::CurveTo(a, b, p))
     }
 
     fn close(&mut self) -> Result<(), Refused>
-        ensures answer { result ≡ verdict (meaning self.old) Close }
-        ensures after { self.new ≡ after meaning took self.old Close }
+        ensures answer { result ≡ verdict (acts.meaning self.old) Close }
+        ensures after { self.new ≡ after acts self.old Close }
     {
         self.send(Command::Close)
     }
 
-    ghost kept: { (s : Self) (c : Command) → kind ((meaning s).map c) ≡ kind c };
+    ghost kept: { (s : Self) (c : Command) → kind ((acts.meaning s).map c) ≡ kind c };
 
-    ghost grows: { (s : Self) (c : Command) → T (takes (meaning s) c) → meaning (took s c) ≡ joined (meaning s) c };
+    ghost grows: { (s : Self) (c : Command) → T (takes (acts.meaning s) c) → acts.meaning (acts.took s c) ≡ joined (acts.meaning s) c };
 }
 
 /// A sink whose list can be read back.
 pub trait ReadableSink: Sink {
     fn len(&self) -> usize
-        ensures { result ≡ length (Self.meaning self.now).list };
+        ensures { result ≡ length (Self.acts.meaning self.now).list };
 
     /// The command at a place, none past the end.
     fn get(&self, i: usize) -> Option<Command>
-        ensures { result ≡ slice_get (Self.meaning self.now).list i };
+        ensures { result ≡ slice_get (Self.acts.meaning self.now).list i };
 }

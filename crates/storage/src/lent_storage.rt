@@ -26,13 +26,12 @@ impl<'a> LentStorage<'a> {
 }
 
 impl<'a> Storage for LentStorage<'a> {
-    ghost held = { λ s. items s.lent };
-
-    ghost capacity = { λ s. place_count s.lent };
-
-    ghost cleared = { λ s. record { lent = cleared s.lent } };
-
-    ghost pushed = { λ s x. record { lent = pushed s.lent x } };
+    ghost acts = { record {
+      held = λ s. items s.lent;
+      capacity = λ s. place_count s.lent;
+      cleared = λ s. record { lent = cleared s.lent };
+      pushed = λ s x. record { lent = pushed s.lent x };
+    } };
 
     ghost empties = { λ s. refl };
 

@@ -26,13 +26,12 @@ impl Storage128 {
 }
 
 impl Storage for Storage128 {
-    ghost held = { λ s. s.list.items };
-
-    ghost capacity = { λ s. place_number s.list };
-
-    ghost cleared = { λ s. record { list = cleared s.list } };
-
-    ghost pushed = { λ s x. record { list = pushed s.list x } };
+    ghost acts = { record {
+      held = λ s. s.list.items;
+      capacity = λ s. place_number s.list;
+      cleared = λ s. record { list = cleared s.list };
+      pushed = λ s x. record { list = pushed s.list x };
+    } };
 
     ghost empties = { λ s. refl };
 

@@ -28,9 +28,9 @@ use Rattle.joins.specs.Joins.{shaped, shaped_questions, split_corner, half_circl
 use Rattle.joins.specs.Caps.{cap_commands, cap_questions}
 use Rattle.segments.specs.Lists.{Each, each_append}
 use Rattle.stroke.specs.Events.{Event, asks, sends, asked_then_sent}
-use Rattle.stroke.specs.Outlines.{turn_between, emitted, join_events, split_events, cap_events, forward, one_forward, back_events, backward, side, sides, other_sides, last_side, end_cap_events, cross_events, start_cap_events, finish_events, open_ring, closed_ring, dash_ring, ring_of, around, across, has_cap}
-use Rattle.stroke.specs.Ranges.{stretch, pieces, dot_slice, dot_around, dash_dot, stretch_outline, is_dot, range_outline}
-use Rattle.stroke.specs.Contours.{row, Closing, Contour, ContourOrNone}
+use Rattle.stroke.specs.Outlines.{turn_between, emitted, join_events, split_events, cap_events, forward, one_forward, back_events, backward, last_side, end_cap_events, cross_events, start_cap_events, finish_events, open_ring, closed_ring, dash_ring, ring_of, across}
+use Rattle.stroke.specs.Ranges.{dot_around}
+use Rattle.stroke.specs.Contours.{row, Closing, Contour}
 
 pub row_append : (es fs : List Event) → row (es ++ fs) ≡ row es ++ row fs
 unfolding row
@@ -164,7 +164,7 @@ open_contour : (F : Functions) (nib : Nib) (o : OffsetSegment) (os : List Offset
 open_contour F nib o os p ps =
     begun o.start _ (closes_after (map sends (emitted o.segment)) _ (emitted_sides o.segment) (closes_after (forward F nib o os) _ (forward_sides F nib o os) (back_closes F nib (last_side o os) p ps o)))
 
-dash_contour : (F : Functions) (nib : Nib) (o : OffsetSegment) (os : List OffsetSegment) (p : OffsetSegment) (ps : List OffsetSegment) → Contour (row (dash_ring F nib o os p ps))
+pub dash_contour : (F : Functions) (nib : Nib) (o : OffsetSegment) (os : List OffsetSegment) (p : OffsetSegment) (ps : List OffsetSegment) → Contour (row (dash_ring F nib o os p ps))
 dash_contour F nib o os p ps =
     begun o.start _ (closes_after (map sends (emitted o.segment)) _ (emitted_sides o.segment) (closes_after (backward F nib o os) _ (backward_sides F nib o os) (back_closes F nib (last_side o os) p ps o)))
 
@@ -187,7 +187,7 @@ ring_contour true F nib o os p ps = closed_contour F nib o os p ps
 ring_contour false F nib o os p ps = open_contour F nib o os p ps
 
 -- a dash of length 0
-dot_contour : (F : Functions) (nib : Nib) (o : OffsetSegment) → Contour (row (dot_around F nib o))
+pub dot_contour : (F : Functions) (nib : Nib) (o : OffsetSegment) → Contour (row (dot_around F nib o))
 dot_contour F nib o =
     let q = difference o.start (multiple o.start_normal (two ⊗ nib.radius)) in
     let there = across o.start q o.start_normal in
@@ -195,30 +195,3 @@ dot_contour F nib o =
     let end = cap_events F nib.end_cap nib.radius there in
     let start = cap_events F nib.start_cap nib.radius back in
     begun o.start _ (closes_after (end ++ start) (sends Close ∷ []) (sides_both end start (cap_sides F nib.end_cap nib.radius there) (cap_sides F nib.start_cap nib.radius back)) end_closes)
-
--- dashes
-some_or_none : (cs : List Command) → Contour cs → ContourOrNone cs
-some_or_none [] h = tt
-some_or_none (c ∷ cs) h = h
-
-abbrev DrawsOrNone : List Event → Type 0
-DrawsOrNone es = ContourOrNone (row es)
-
-no_contour : DrawsOrNone []
-unfolding row
-no_contour = tt
-
-ring_or_none : (F : Functions) (nib : Nib) (os ps : List OffsetSegment) → DrawsOrNone (around (dash_ring F nib) os ps)
-ring_or_none F nib [] ps = no_contour
-ring_or_none F nib (o ∷ os) [] = no_contour
-ring_or_none F nib (o ∷ os) (p ∷ ps) = some_or_none _ (dash_contour F nib o os p ps)
-
-dot_or_none : (F : Functions) (nib : Nib) (t : Float) (ys : List Segment) → DrawsOrNone (dash_dot F nib t ys)
-dot_or_none F nib t [] = no_contour
-dot_or_none F nib t (x ∷ ys) = let o = side nib (dot_slice x t) in cond_both (has_cap nib) (dot_around F nib o) [] DrawsOrNone (λ _. some_or_none _ (dot_contour F nib o)) (λ _. no_contour)
-
--- What is sent for a dash is a contour, or nothing.
-pub range_contour : (F : Functions) (nib : Nib) (xs : List Segment) (from to : ℕ) (t0 t1 : Float) → ContourOrNone (row (range_outline F nib xs from to t0 t1))
-range_contour F nib xs from to t0 t1 =
-    let ys = stretch xs from to in
-    cond_both (is_dot from to t0 t1) (dash_dot F nib t0 ys) (stretch_outline F nib t0 t1 ys) DrawsOrNone (λ _. dot_or_none F nib t0 ys) (λ _. ring_or_none F nib (sides nib (pieces t0 t1 ys)) (other_sides nib (pieces t0 t1 ys)))

@@ -27,7 +27,8 @@ use Rattle.dashes.specs.StepCounts.{most_steps}
 use Rattle.dashes.specs.Walks.{DashEvent, walking, seeking}
 use Rattle.dashes.specs.Walks as walks
 use Rattle.stroke.specs.Outlines.{outline}
-use Rattle.stroke.specs.Calls.{Action, clears, ends, draws, twice_place, dash_of, dash_actions, walk_along, run_actions, run_by_run, stroke_actions}
+use Rattle.stroke.specs.Calls.{Action, clears, ends, draws, dash_actions, run_actions, run_by_run, stroke_actions}
+use Rattle.stroke.specs.Runs.{twice_place, dash_of, walk_along}
 use Rattle.stroke.proofs.Bounds.{outline_bound, range_bound, stretch_bound}
 
 -- ---- what a cursor gives and asks
@@ -110,11 +111,12 @@ each_few f m h (x ∷ xs) = simp length-append (omega (arith, h x, each_few f m 
 
 -- the walk takes at most 65,536 steps and one more
 walk_few : (F : Functions) (nib : Nib) (p : Dashes) (closed : Bool) (xs : List Segment) → length (flat_map (dash_actions F nib xs) (walk_along p closed xs)) ≤ 131074 * (1 + 110 * length xs)
-walk_few F nib p closed xs =
-    let m = 1 + 110 * length xs in
-    let es = walk_along p closed xs in
-    let long : length es ≤ 131074 = seeking_few most_steps p xs (seeks p (begun p closed)) (begun p closed) in
-    omega (arith, each_few (dash_actions F nib xs) m (dash_few F nib xs) es, mul-le (length es) m 131074 m long (omega arith))
+walk_few F nib p closed [] = omega arith
+walk_few F nib p closed (x ∷ xs) =
+    let m = 1 + 110 * length (x ∷ xs) in
+    let es = walk_along p closed (x ∷ xs) in
+    let long : length es ≤ 131074 = seeking_few most_steps p (x ∷ xs) (seeks p (begun p closed)) (begun p closed) in
+    omega (arith, each_few (dash_actions F nib (x ∷ xs)) m (dash_few F nib (x ∷ xs)) es, mul-le (length es) m 131074 m long (omega arith))
 
 -- ---- runs
 

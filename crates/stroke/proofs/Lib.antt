@@ -11,9 +11,10 @@ mod Lengths
 mod Offsets
 mod Performing
 mod Playing
+mod Ranging
 mod Rows
 pub mod Seen
 mod Stretches
+mod Traces
 mod Two
-mod WalkRanges
 mod Walking

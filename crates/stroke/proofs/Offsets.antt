@@ -158,7 +158,7 @@ each_reversed P (x ∷ xs) ys h k = each_reversed P xs (x ∷ ys) h.1 (h.0, k)
 others_there : (nib : Nib) (xs : List Segment) → Each NoEnd xs → Each HasSide (other_sides nib xs)
 others_there nib xs h = sides_back nib (reverse xs) (each_reversed NoEnd xs [] h tt)
 
-others_long : (nib : Nib) (xs : List Segment) → length (other_sides nib xs) ≡ length xs
+pub others_long : (nib : Nib) (xs : List Segment) → length (other_sides nib xs) ≡ length xs
 others_long nib xs = length-map (reverse xs) (other_side nib) ∙ length-reverse xs
 
 offsets_stand : (nib : Nib) (xs : List Segment) (es : List Event) → Sent (sides nib xs ++ other_sides nib xs) es → OffsetsStand nib xs (row es)

@@ -1,5 +1,5 @@
 -- A whole stroke: what drawing a path does, in order, by its commands, style, dashes and five functions alone.
-use Rattle.std.specs.Prelude.{ℕ, suc, ◌+◌, ◌-◌, ℤ, pos, negsuc, Bool, true, false, List, [], ◌∷◌, ◌++◌, map, flat_map, length, Some, None, Option, Float}
+use Rattle.std.specs.Prelude.{ℕ, Bool, true, false, List, [], ◌∷◌, ◌++◌, map, flat_map, length, Some, None, Option, Float}
 use Rattle.maths.specs.Functions.{Functions}
 use Rattle.path.specs.declared.command.Command.{Command}
 use Rattle.path.specs.declared.style.Stroke.{Stroke}
@@ -10,14 +10,12 @@ use Rattle.cursor.specs.Drawings as drawings
 use Rattle.pen.specs.declared.nib.Nib.{Nib}
 use Rattle.pen.specs.Nibs.{nib_of}
 use Rattle.dashes.specs.declared.dasher.Range.{Range}
-use Rattle.dashes.specs.Dashers.{begun, seeks}
 use Rattle.dashes.specs.Patterns.{Dashes, pattern_of}
-use Rattle.dashes.specs.StepCounts.{most_steps}
 use Rattle.dashes.specs.Walks.{DashEvent, seeking}
 use Rattle.dashes.specs.Walks as walks
 use Rattle.stroke.specs.Events.{Event, asks}
 use Rattle.stroke.specs.Outlines.{outline}
-use Rattle.stroke.specs.Ranges.{range_outline}
+use Rattle.stroke.specs.Runs.{dash_of, walk_along}
 
 -- The storage is emptied for a run, a segment is stored, an end is read, a dash step is asked for, a dash is worked out over a run of so many
 -- segments, or an outline goes on with a question or a command.
@@ -29,23 +27,11 @@ pub data Action : Type 0 where
   works_out : ℕ → Range → Action
   draws : Event → Action
 
--- of a signed number the place in the run of n segments written twice
-abbrev pub twice_place : ℕ → ℤ → ℕ
-twice_place n (pos i) = n + i
-twice_place n (negsuc i) = n - suc i
-
-abbrev pub dash_of : Functions → Nib → List Segment → Range → List Event
-dash_of F nib xs r = range_outline F nib xs (twice_place (length xs) r.start) (twice_place (length xs) r.end) r.t0 r.t1
-
 -- what comes of an event of a dash walk: a dash that takes the whole run is the closed outline
 abbrev pub dash_actions : Functions → Nib → List Segment → DashEvent → List Action
 dash_actions F nib xs walks.steps = steps ∷ []
 dash_actions F nib xs (walks.emits r) = works_out (length xs) r ∷ map draws (dash_of F nib xs r)
 dash_actions F nib xs walks.strokes = map draws (outline F nib true xs)
-
--- the walk of a pattern along a run, for as many steps as any budget admits
-abbrev pub walk_along : Dashes → Bool → List Segment → List DashEvent
-walk_along p closed xs = seeking most_steps p xs (seeks p (begun p closed)) (begun p closed)
 
 -- a run, plain or with a pattern; an empty one does nothing
 abbrev pub run_actions : Functions → Nib → Option Dashes → Bool → List Segment → List Action

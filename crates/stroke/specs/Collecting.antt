@@ -1,12 +1,12 @@
 -- What collecting a run does with what a cursor gives: to a storage, to a host, and what it leaves.
-use Rattle.std.specs.Prelude.{ℕ, Bool, cond, List, [], ◌∷◌, Some, None, Option, Ok, Err, Result, Float}
-use Rattle.maths.specs.declared.host.Function.{Function}
+use Rattle.std.specs.Prelude.{Bool, cond, List, [], ◌∷◌, Some, None, Option, Ok, Err, Result}
 use Rattle.maths.specs.Questions.{Question}
 use Rattle.segments.specs.declared.segment.Segment.{Segment}
 use Rattle.segments.specs.declared.segment.Segment.TheVariants.{Line, Curve, End}
 use Rattle.lent.specs.declared.Full.{Full}
-use Rattle.storage.specs.Meaning.{room}
+use Rattle.storage.specs.Meaning.{room, StorageActs}
 use Rattle.cursor.specs.Drawings.{Event, asks, gives}
+use Rattle.maths.specs.Functions.{HostActs}
 
 -- of a segment that is an end, whether it closes its run
 abbrev pub end_of : Segment → Option Bool
@@ -26,14 +26,14 @@ abbrev pub collected : {B K : Type 0} → B → K → Result (Option Bool) Full 
 collected b k answer es = record { storage = b; host = k; answer = answer; left = es }
 
 -- B the storages and K the hosts, with what they do
-module _ {B K : Type 0} (held : B → List Segment) (capacity : B → ℕ) (pushed : B → Segment → B) (asked : K → Function → Float → K) where
+module _ {B K : Type 0} (storages : StorageActs B) (hosts : HostActs K) where
   -- each segment into the storage, up to an end, or to the first that the storage refuses
   unfoldable pub gather : B → K → List Event → Collected B K
   gather b k [] = collected b k (Ok None) []
-  gather b k (asks q ∷ es) = gather b (asked k q.0 q.1) es
+  gather b k (asks q ∷ es) = gather b (hosts.asked k q.0 q.1) es
   gather b k (gives (End closed) ∷ es) = collected b k (Ok (Some closed)) es
-  gather b k (gives (Line i l) ∷ es) = cond (room (held b) (capacity b)) (gather (pushed b (Line i l)) k es) (collected b k (Err (record {})) es)
-  gather b k (gives (Curve i c) ∷ es) = cond (room (held b) (capacity b)) (gather (pushed b (Curve i c)) k es) (collected b k (Err (record {})) es)
+  gather b k (gives (Line i l) ∷ es) = cond (room (storages.held b) (storages.capacity b)) (gather (storages.pushed b (Line i l)) k es) (collected b k (Err (record {})) es)
+  gather b k (gives (Curve i c) ∷ es) = cond (room (storages.held b) (storages.capacity b)) (gather (storages.pushed b (Curve i c)) k es) (collected b k (Err (record {})) es)
 
 -- The first run of what is given: its segments,
 unfoldable pub first_run : List Event → List Segment

@@ -1,9 +1,9 @@
 -- What drawing does, event by event, and what comes of it in a sink and a host.
-use Rattle.std.specs.Prelude.{ℕ, ◌+◌, Bool, true, false, cond, List, [], ◌∷◌, ◌++◌, map, Float}
-use Rattle.maths.specs.declared.host.Function.{Function}
+use Rattle.std.specs.Prelude.{ℕ, ◌+◌, Bool, true, false, cond, List, [], ◌∷◌, ◌++◌, map}
 use Rattle.maths.specs.Questions.{Question}
 use Rattle.path.specs.declared.command.Command.{Command}
-use Rattle.sinks.specs.Meaning.{Meaning, takes}
+use Rattle.sinks.specs.Meaning.{takes, SinkActs}
+use Rattle.maths.specs.Functions.{HostActs}
 
 -- a question to the host, or a command to the sink
 pub data Event : Type 0 where
@@ -25,11 +25,11 @@ abbrev pub drawing : {S K : Type 0} → S → K → ℕ → Bool → Drawing S K
 drawing s k n going = record { sink = s; host = k; sent = n; going = going }
 
 -- S the sinks and K the hosts, with what they answer
-module _ {S K : Type 0} (meaning : S → Meaning) (took : S → Command → S) (asked : K → Function → Float → K) where
+module _ {S K : Type 0} (sinks : SinkActs S) (hosts : HostActs K) where
   -- one event of a drawing that goes on: it stops at a command that the sink refuses
   abbrev pub one : Event → S → K → ℕ → Drawing S K
-  one (asks q) s k n = drawing s (asked k q.0 q.1) n true
-  one (sends c) s k n = cond (takes (meaning s) c) (drawing (took s c) k (n + 1) true) (drawing s k n false)
+  one (asks q) s k n = drawing s (hosts.asked k q.0 q.1) n true
+  one (sends c) s k n = cond (takes (sinks.meaning s) c) (drawing (sinks.took s c) k (n + 1) true) (drawing s k n false)
 
   abbrev pub then : Event → Drawing S K → Drawing S K
   then e d = cond d.going (one e d.sink d.host d.sent) d

@@ -8,4 +8,5 @@ pub mod Outcomes
 pub mod Outlines
 pub mod Ranges
 pub mod Rings
+pub mod Runs
 pub mod Strokers

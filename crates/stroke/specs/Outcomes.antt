@@ -1,15 +1,13 @@
 -- What comes of a stroke in a sink, a storage and a host, within a budget: all that it does up to the first refusal, and the answer.
 use Rattle.std.specs.Prelude.{ℕ, ◌+◌, Bool, true, false, cond, List, [], ◌∷◌, Some, None, Option, Ok, Err, Result, nat_lt, Float}
-use Rattle.maths.specs.declared.host.Function.{Function}
-use Rattle.maths.specs.Functions.{Functions}
+use Rattle.maths.specs.Functions.{Functions, HostActs}
 use Rattle.path.specs.declared.command.Command.{Command}
 use Rattle.path.specs.declared.refusal.Reason.{Reason}
 use Rattle.path.specs.declared.refusal.Reason.TheVariants.{StorageFull, StepsSpent, SinkRefused}
 use Rattle.path.specs.declared.refusal.Refusal.{Refusal}
 use Rattle.path.specs.declared.style.Stroke.{Stroke}
-use Rattle.segments.specs.declared.segment.Segment.{Segment}
-use Rattle.sinks.specs.Meaning.{Meaning}
-use Rattle.storage.specs.Meaning.{room}
+use Rattle.sinks.specs.Meaning.{SinkActs}
+use Rattle.storage.specs.Meaning.{room, StorageActs}
 use Rattle.limits.specs.Limits.{admitted}
 use Rattle.stroke.specs.Events.{Drawing, one}
 use Rattle.stroke.specs.Calls.{Action, clears, stores, ends, steps, works_out, draws, stroke_actions}
@@ -54,18 +52,18 @@ why_not true = None
 why_not false = Some SinkRefused
 
 -- S the sinks, B the storages and K the hosts, with what they do
-module _ {S B K : Type 0} (meaning : S → Meaning) (took : S → Command → S) (held : B → List Segment) (capacity : B → ℕ) (cleared : B → B) (pushed : B → Segment → B) (asked : K → Function → Float → K) (budget : ℕ) where
+module _ {S B K : Type 0} (sinks : SinkActs S) (storages : StorageActs B) (hosts : HostActs K) (budget : ℕ) where
   abbrev pub after_draw : Stage S B K → Drawing S K → Stage S B K
   after_draw d x = record d { sink = x.sink; host = x.host; sent = x.sent; stop = why_not x.going }
 
   -- one action of a stroke that goes on
   abbrev pub act : Action → Stage S B K → Stage S B K
-  act clears d = record d { storage = cleared d.storage }
-  act (stores x) d = cond (room (held d.storage) (capacity d.storage)) (record d { storage = pushed d.storage x }) (record d { stop = Some StorageFull })
+  act clears d = record d { storage = storages.cleared d.storage }
+  act (stores x) d = cond (room (storages.held d.storage) (storages.capacity d.storage)) (record d { storage = storages.pushed d.storage x }) (record d { stop = Some StorageFull })
   act ends d = record d { ended = d.ended + 1 }
   act steps d = cond (nat_lt d.taken budget) (record d { taken = d.taken + 1 }) (record d { stop = Some StepsSpent })
   act (works_out n r) d = d
-  act (draws e) d = after_draw d (one meaning took asked e d.sink d.host d.sent)
+  act (draws e) d = after_draw d (one sinks hosts e d.sink d.host d.sent)
 
   abbrev pub act_on : Option Reason → Action → Stage S B K → Stage S B K
   act_on None a d = act a d

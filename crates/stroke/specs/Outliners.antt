@@ -1,10 +1,9 @@
 -- What an outliner has drawn.
-use Rattle.std.specs.Prelude.{◌≡◌, ◌+◌, ◌^◌, ◌<◌, Bool, true, List, length, Float}
-use Rattle.maths.specs.declared.host.Function.{Function}
-use Rattle.path.specs.declared.command.Command.{Command}
-use Rattle.sinks.specs.Meaning.{Meaning}
+use Rattle.std.specs.Prelude.{◌≡◌, ◌+◌, ◌^◌, ◌<◌, Bool, true, List, length}
+use Rattle.sinks.specs.Meaning.{SinkActs}
 use Rattle.stroke.specs.declared.outliner.Outliner.{Outliner}
 use Rattle.stroke.specs.Events.{Event, Drawing, drawing, play}
+use Rattle.maths.specs.Functions.{HostActs}
 
 -- so many events can be counted
 abbrev pub Fits : {S K : Type 0} → Outliner S K → List Event → Type 0
@@ -20,6 +19,6 @@ pub record Same {S K : Type 0} (a b : Outliner S K) : Type 0 where
   pub nib : b.nib ≡ a.nib
 
 -- one outliner came from another by these events, up to the first refusal
-pub record Drew {S K : Type 0} (meaning : S → Meaning) (took : S → Command → S) (asked : K → Function → Float → K) (a b : Outliner S K) (es : List Event) (going : Bool) : Type 0 where
-  pub played : stage b going ≡ play meaning took asked es (stage a true)
+pub record Drew {S K : Type 0} (sinks : SinkActs S) (hosts : HostActs K) (a b : Outliner S K) (es : List Event) (going : Bool) : Type 0 where
+  pub played : stage b going ≡ play sinks hosts es (stage a true)
   pub same : Same a b

@@ -1,17 +1,16 @@
 -- What a stroker has done.
-use Rattle.std.specs.Prelude.{◌≡◌, ℕ, ◌+◌, ◌^◌, ◌<◌, Bool, List, length, Some, None, Option, Ok, Err, Result, Float}
-use Rattle.maths.specs.declared.host.Function.{Function}
-use Rattle.path.specs.declared.command.Command.{Command}
+use Rattle.std.specs.Prelude.{◌≡◌, ◌+◌, ◌^◌, ◌<◌, Bool, List, length, Some, None, Option, Ok, Err, Result}
 use Rattle.path.specs.declared.refusal.Reason.{Reason}
 use Rattle.path.specs.declared.refusal.Reason.TheVariants.{StorageFull}
-use Rattle.segments.specs.declared.segment.Segment.{Segment}
-use Rattle.sinks.specs.Meaning.{Meaning}
+use Rattle.sinks.specs.Meaning.{SinkActs}
 use Rattle.lent.specs.declared.Full.{Full}
 use Rattle.stroke.specs.declared.outliner.Outliner.{Outliner}
 use Rattle.stroke.specs.declared.stroker.Stroker.{Stroker}
 use Rattle.stroke.specs.Calls.{Action}
 use Rattle.stroke.specs.Outcomes.{Stage, perform}
 use Rattle.stroke.specs.Outliners.{Same}
+use Rattle.maths.specs.Functions.{HostActs}
+use Rattle.storage.specs.Meaning.{StorageActs}
 
 -- what its outlines are drawn by
 abbrev pub outliner_of : {S B K : Type 0} → Stroker S B K → Outliner S K
@@ -47,7 +46,7 @@ pub record Kept {S B K : Type 0} (a b : Stroker S B K) : Type 0 where
   pub budget : b.steps.budget ≡ a.steps.budget
 
 -- one stroker came from another by these actions, up to the first refusal
-pub record Performed {S B K : Type 0} (meaning : S → Meaning) (took : S → Command → S) (held : B → List Segment) (capacity : B → ℕ) (cleared : B → B) (pushed : B → Segment → B) (asked : K → Function → Float → K)
+pub record Performed {S B K : Type 0} (sinks : SinkActs S) (storages : StorageActs B) (hosts : HostActs K)
     (a b : Stroker S B K) (actions : List Action) (stop : Option Reason) : Type 0 where
-  pub performed : stage_of b stop ≡ perform meaning took held capacity cleared pushed asked a.steps.budget actions (stage_of a None)
+  pub performed : stage_of b stop ≡ perform sinks storages hosts a.steps.budget actions (stage_of a None)
   pub kept : Kept a b

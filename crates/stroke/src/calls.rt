@@ -1,9 +1,10 @@
-ghost use Rattle.std.specs.Prelude.{◌≡◌, ◌≤◌, ◌∷◌, List, length};
+ghost use Rattle.std.specs.Prelude.{◌≡◌, ◌≤◌, ◌∷◌, List, length, take};
 ghost use Rattle.dashes.specs.StepCounts.{most_steps};
 ghost use Rattle.stroke.specs.Calls.{stroke_actions};
-ghost use Rattle.stroke.specs.Histories.{Call, call, History, Lawful, Promised, empty_held, stroked_held, held_by};
+ghost use Rattle.stroke.specs.Histories.{Call, call, History, Lawful, Promised, after_taking, count, row_of};
 ghost use Rattle.stroke.specs.Outcomes.{stroked, outcome, perform, at_start, answer_of};
 ghost use Rattle.stroke.specs.Strokers.{stop_of};
+ghost use Rattle.storage.specs.Meaning.{held_acts, empty_held, held_by};
 
 use crate::stroker::Stroker;
 use crate::tally::Tally;
@@ -36,10 +37,11 @@ pub fn stroke_with_storage<S: Sink, B: Storage, K: MathsHost>(
     storage: &mut B,
     host: &mut K,
 ) -> Result<Tally, Refusal>
-    ensures whole { record { answer = result; sink = sink.new; storage = storage.new; host = host.new } ≡ stroked S.meaning S.took B.held B.capacity B.cleared B.pushed K.asked budget (K.functions host.old) commands.now style dashes.now sink.old storage.old host.old }
-    ensures functions { K.functions host.new ≡ K.functions host.old }
-    ensures promised { Promised (call commands.now style dashes.now (K.functions host.old) (B.capacity storage.old) budget result) (S.meaning sink.old) (S.meaning sink.new) }
-    ensures lawful { (earlier : List Call) → History earlier (S.meaning sink.old) → Lawful (call commands.now style dashes.now (K.functions host.old) (B.capacity storage.old) budget result ∷ earlier) (S.meaning sink.new) }
+    ensures whole { record { answer = result; sink = sink.new; storage = storage.new; host = host.new } ≡ stroked S.acts B.acts K.acts budget (K.acts.functions host.old) commands.now style dashes.now sink.old storage.old host.old }
+    ensures functions { K.acts.functions host.new ≡ K.acts.functions host.old }
+    ensures promised { Promised (call commands.now style dashes.now (K.acts.functions host.old) (B.acts.capacity storage.old) budget result) (S.acts.meaning sink.old) (S.acts.meaning sink.new) }
+    ensures took { sink.new ≡ after_taking S.acts (take (count result) (row_of (call commands.now style dashes.now (K.acts.functions host.old) (B.acts.capacity storage.old) budget result))) sink.old }
+    ensures lawful { (earlier : List Call) → History earlier (S.acts.meaning sink.old) → Lawful (call commands.now style dashes.now (K.acts.functions host.old) (B.acts.capacity storage.old) budget result ∷ earlier) (S.acts.meaning sink.new) }
 {
     stroke_lawfully(commands, style, dashes, budget, sink, storage, host)
 }
@@ -53,10 +55,11 @@ pub fn stroke_into<S: Sink, K: MathsHost>(
     sink: &mut S,
     host: &mut K,
 ) -> Result<Tally, Refusal>
-    ensures whole { let o = stroked_held S.meaning S.took K.asked budget (K.functions host.old) commands.now style dashes.now sink.old (empty_held 128) host.old in (result ≡ o.answer) × (sink.new ≡ o.sink) × (host.new ≡ o.host) }
-    ensures functions { K.functions host.new ≡ K.functions host.old }
-    ensures promised { Promised (call commands.now style dashes.now (K.functions host.old) 128 budget result) (S.meaning sink.old) (S.meaning sink.new) }
-    ensures lawful { (earlier : List Call) → History earlier (S.meaning sink.old) → Lawful (call commands.now style dashes.now (K.functions host.old) 128 budget result ∷ earlier) (S.meaning sink.new) }
+    ensures whole { let o = stroked S.acts held_acts K.acts budget (K.acts.functions host.old) commands.now style dashes.now sink.old (empty_held 128) host.old in (result ≡ o.answer) × (sink.new ≡ o.sink) × (host.new ≡ o.host) }
+    ensures functions { K.acts.functions host.new ≡ K.acts.functions host.old }
+    ensures promised { Promised (call commands.now style dashes.now (K.acts.functions host.old) 128 budget result) (S.acts.meaning sink.old) (S.acts.meaning sink.new) }
+    ensures took { sink.new ≡ after_taking S.acts (take (count result) (row_of (call commands.now style dashes.now (K.acts.functions host.old) 128 budget result))) sink.old }
+    ensures lawful { (earlier : List Call) → History earlier (S.acts.meaning sink.old) → Lawful (call commands.now style dashes.now (K.acts.functions host.old) 128 budget result ∷ earlier) (S.acts.meaning sink.new) }
 {
     let mut storage = Storage128::new();
     stroke_lawfully(commands, style, dashes, budget, sink, &mut storage, host)
@@ -73,11 +76,12 @@ fn stroke_lawfully<S: Sink, B: Storage, K: MathsHost>(
     storage: &mut B,
     host: &mut K,
 ) -> Result<Tally, Refusal>
-    ensures whole { record { answer = result; sink = sink.new; storage = storage.new; host = host.new } ≡ stroked S.meaning S.took B.held B.capacity B.cleared B.pushed K.asked budget (K.functions host.old) commands.now style dashes.now sink.old storage.old host.old }
-    ensures functions { K.functions host.new ≡ K.functions host.old }
-    ensures seen { let o = stroked_held S.meaning S.took K.asked budget (K.functions host.old) commands.now style dashes.now sink.old (held_by B.held B.capacity storage.old) host.old in (result ≡ o.answer) × (sink.new ≡ o.sink) × (host.new ≡ o.host) }
-    ensures promised { Promised (call commands.now style dashes.now (K.functions host.old) (B.capacity storage.old) budget result) (S.meaning sink.old) (S.meaning sink.new) }
-    ensures lawful { (earlier : List Call) → History earlier (S.meaning sink.old) → Lawful (call commands.now style dashes.now (K.functions host.old) (B.capacity storage.old) budget result ∷ earlier) (S.meaning sink.new) }
+    ensures whole { record { answer = result; sink = sink.new; storage = storage.new; host = host.new } ≡ stroked S.acts B.acts K.acts budget (K.acts.functions host.old) commands.now style dashes.now sink.old storage.old host.old }
+    ensures functions { K.acts.functions host.new ≡ K.acts.functions host.old }
+    ensures seen { let o = stroked S.acts held_acts K.acts budget (K.acts.functions host.old) commands.now style dashes.now sink.old (held_by B.acts storage.old) host.old in (result ≡ o.answer) × (sink.new ≡ o.sink) × (host.new ≡ o.host) }
+    ensures promised { Promised (call commands.now style dashes.now (K.acts.functions host.old) (B.acts.capacity storage.old) budget result) (S.acts.meaning sink.old) (S.acts.meaning sink.new) }
+    ensures took { sink.new ≡ after_taking S.acts (take (count result) (row_of (call commands.now style dashes.now (K.acts.functions host.old) (B.acts.capacity storage.old) budget result))) sink.old }
+    ensures lawful { (earlier : List Call) → History earlier (S.acts.meaning sink.old) → Lawful (call commands.now style dashes.now (K.acts.functions host.old) (B.acts.capacity storage.old) budget result ∷ earlier) (S.acts.meaning sink.new) }
 {
     admit_and_draw(commands, style, dashes, budget, sink, storage, host)
 }
@@ -93,7 +97,7 @@ fn admit_and_draw<S: Sink, B: Storage, K: MathsHost>(
     storage: &mut B,
     host: &mut K,
 ) -> Result<Tally, Refusal>
-    ensures { record { answer = result; sink = sink.new; storage = storage.new; host = host.new } ≡ stroked S.meaning S.took B.held B.capacity B.cleared B.pushed K.asked budget (K.functions host.old) commands.now style dashes.now sink.old storage.old host.old }
+    ensures { record { answer = result; sink = sink.new; storage = storage.new; host = host.new } ≡ stroked S.acts B.acts K.acts budget (K.acts.functions host.old) commands.now style dashes.now sink.old storage.old host.old }
 {
     admit(commands, style, dashes, budget)?;
     draw(commands, style, dashes, budget, sink, storage, host)
@@ -110,7 +114,7 @@ fn draw<'a, S: Sink, B: Storage, K: MathsHost>(
 ) -> Result<Tally, Refusal>
     requires few { length commands.now ≤ 4096 }
     requires budget { budget ≤ most_steps }
-    ensures { record { answer = result; sink = sink.new; storage = storage.new; host = host.new } ≡ outcome (perform S.meaning S.took B.held B.capacity B.cleared B.pushed K.asked budget (stroke_actions (K.functions host.old) commands.now style dashes.now) (at_start S.meaning S.took B.held B.capacity B.cleared B.pushed K.asked budget sink.old storage.old host.old)) }
+    ensures { record { answer = result; sink = sink.new; storage = storage.new; host = host.new } ≡ outcome (perform S.acts B.acts K.acts budget (stroke_actions (K.acts.functions host.old) commands.now style dashes.now) (at_start S.acts B.acts K.acts budget sink.old storage.old host.old)) }
 {
     let pattern = Pattern::new(dashes, style.offset);
     let nib = Pen::new(style).nib();

@@ -29,8 +29,8 @@ pub(crate) fn collect<B: Storage, K: MathsHost>(
     storage: &mut B,
     host: &mut K,
 ) -> Result<Option<bool>, Full>
-    ensures whole { collected storage.new host.new result (still (K.functions host.old) (seen cursor.new) (rest cursor.new commands.now)) ≡ gather B.held B.capacity B.pushed K.asked (B.cleared storage.old) host.old (still (K.functions host.old) (seen cursor.old) (rest cursor.old commands.now)) }
-    ensures functions { K.functions host.new ≡ K.functions host.old }
+    ensures whole { collected storage.new host.new result (still (K.acts.functions host.old) (seen cursor.new) (rest cursor.new commands.now)) ≡ gather B.acts K.acts (B.acts.cleared storage.old) host.old (still (K.acts.functions host.old) (seen cursor.old) (rest cursor.old commands.now)) }
+    ensures functions { K.acts.functions host.new ≡ K.acts.functions host.old }
     ensures falls { (closed : Bool) → result ≡ Ok (Some closed) → left (seen cursor.new) (rest cursor.new commands.now) < left (seen cursor.old) (rest cursor.old commands.now) }
 {
     storage.clear();

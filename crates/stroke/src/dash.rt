@@ -46,8 +46,8 @@ fn across_from(o: OffsetSegment, radius: f32) -> Point
 impl<'a, S: Sink, K: MathsHost> Outliner<'a, S, K> {
     // A spot at the start of a side, and the close.
     fn dot_around(&mut self, o: OffsetSegment) -> Result<(), Refused>
-        requires { Fits self.old (dot_around (K.functions self.old.host.now) self.old.nib o) }
-        ensures { Drew S.meaning S.took K.asked self.old self.new (dot_around (K.functions self.old.host.now) self.old.nib o) (is_ok result) }
+        requires { Fits self.old (dot_around (K.acts.functions self.old.host.now) self.old.nib o) }
+        ensures { Drew S.acts K.acts self.old self.new (dot_around (K.acts.functions self.old.host.now) self.old.nib o) (is_ok result) }
     {
         let across = across_from(o, self.nib.radius);
         self.spot(o.start, across, o.start_normal)?;
@@ -56,8 +56,8 @@ impl<'a, S: Sink, K: MathsHost> Outliner<'a, S, K> {
 
     // A dash of length 0 at a time of a segment: nothing with two butt caps.
     fn dash_dot(&mut self, segment: Segment, t: f32) -> Result<(), Refused>
-        requires { Fits self.old (dash_dot (K.functions self.old.host.now) self.old.nib t (segment ∷ [])) }
-        ensures { Drew S.meaning S.took K.asked self.old self.new (dash_dot (K.functions self.old.host.now) self.old.nib t (segment ∷ [])) (is_ok result) }
+        requires { Fits self.old (dash_dot (K.acts.functions self.old.host.now) self.old.nib t (segment ∷ [])) }
+        ensures { Drew S.acts K.acts self.old self.new (dash_dot (K.acts.functions self.old.host.now) self.old.nib t (segment ∷ [])) (is_ok result) }
     {
         if has_cap(self.nib) {
             self.dot_around(side(self.nib, dot_slice(segment, t)))
@@ -76,10 +76,10 @@ impl<'a, S: Sink, K: MathsHost> Outliner<'a, S, K> {
         t1: f32,
     ) -> Result<(), Refused>
         requires order { from ≤ to }
-        requires within { to < length (B.held storage.now) + length (B.held storage.now) }
+        requires within { to < length (B.acts.held storage.now) + length (B.acts.held storage.now) }
         requires few { to + 1 < 2 ^ 64 }
-        requires room { Fits self.old (range_outline (K.functions self.old.host.now) self.old.nib (B.held storage.now) from to t0 t1) }
-        ensures { Drew S.meaning S.took K.asked self.old self.new (range_outline (K.functions self.old.host.now) self.old.nib (B.held storage.now) from to t0 t1) (is_ok result) }
+        requires room { Fits self.old (range_outline (K.acts.functions self.old.host.now) self.old.nib (B.acts.held storage.now) from to t0 t1) }
+        ensures { Drew S.acts K.acts self.old self.new (range_outline (K.acts.functions self.old.host.now) self.old.nib (B.acts.held storage.now) from to t0 t1) (is_ok result) }
     {
         if is_dot(from, to, t0, t1) {
             return match twice_at(storage, from) {

@@ -51,8 +51,8 @@ pub(crate) fn is_lone_dot<R: Row>(row: &R, nib: Nib) -> bool
 impl<'a, S: Sink, K: MathsHost> Outliner<'a, S, K> {
     // A cap around a point with the normal n, from p across to q.
     fn cap_across(&mut self, shape: Cap, p: Point, q: Point, normal: Vector) -> Result<(), Refused>
-        requires { Fits self.old (cap_events (K.functions self.old.host.now) shape self.old.nib.radius (across p q normal)) }
-        ensures { Drew S.meaning S.took K.asked self.old self.new (cap_events (K.functions self.old.host.now) shape self.old.nib.radius (across p q normal)) (is_ok result) }
+        requires { Fits self.old (cap_events (K.acts.functions self.old.host.now) shape self.old.nib.radius (across p q normal)) }
+        ensures { Drew S.acts K.acts self.old self.new (cap_events (K.acts.functions self.old.host.now) shape self.old.nib.radius (across p q normal)) (is_ok result) }
     {
         let turn = Turn {
             from: p,
@@ -66,8 +66,8 @@ impl<'a, S: Sink, K: MathsHost> Outliner<'a, S, K> {
 
     // From p across to q, and back.
     fn two_caps(&mut self, p: Point, q: Point, normal: Vector) -> Result<(), Refused>
-        requires { Fits self.old (two_caps (K.functions self.old.host.now) self.old.nib p q normal) }
-        ensures { Drew S.meaning S.took K.asked self.old self.new (two_caps (K.functions self.old.host.now) self.old.nib p q normal) (is_ok result) }
+        requires { Fits self.old (two_caps (K.acts.functions self.old.host.now) self.old.nib p q normal) }
+        ensures { Drew S.acts K.acts self.old self.new (two_caps (K.acts.functions self.old.host.now) self.old.nib p q normal) (is_ok result) }
     {
         self.cap_across(self.nib.end_cap, p, q, normal)?;
         self.cap_across(self.nib.start_cap, q, p, normal.mul(-1.0))
@@ -75,8 +75,8 @@ impl<'a, S: Sink, K: MathsHost> Outliner<'a, S, K> {
 
     // Two caps around a point with that normal, after a move to p.
     pub(crate) fn spot(&mut self, p: Point, q: Point, normal: Vector) -> Result<(), Refused>
-        requires { Fits self.old (spot (K.functions self.old.host.now) self.old.nib p q normal) }
-        ensures { Drew S.meaning S.took K.asked self.old self.new (spot (K.functions self.old.host.now) self.old.nib p q normal) (is_ok result) }
+        requires { Fits self.old (spot (K.acts.functions self.old.host.now) self.old.nib p q normal) }
+        ensures { Drew S.acts K.acts self.old self.new (spot (K.acts.functions self.old.host.now) self.old.nib p q normal) (is_ok result) }
     {
         self.send(Command::MoveTo(p))?;
         self.two_caps(p, q, normal)
@@ -84,8 +84,8 @@ impl<'a, S: Sink, K: MathsHost> Outliner<'a, S, K> {
 
     // A dot around a point, on a vertical line.
     fn dot_on(&mut self, point: Point) -> Result<(), Refused>
-        requires { Fits self.old (dot_on (K.functions self.old.host.now) self.old.nib point) }
-        ensures { Drew S.meaning S.took K.asked self.old self.new (dot_on (K.functions self.old.host.now) self.old.nib point) (is_ok result) }
+        requires { Fits self.old (dot_on (K.acts.functions self.old.host.now) self.old.nib point) }
+        ensures { Drew S.acts K.acts self.old self.new (dot_on (K.acts.functions self.old.host.now) self.old.nib point) (is_ok result) }
     {
         let up = Vector::new(0.0, 1.0);
         let way = up.mul(self.nib.radius);
@@ -94,8 +94,8 @@ impl<'a, S: Sink, K: MathsHost> Outliner<'a, S, K> {
 
     // The dot around where a row begins: nothing where it has no segments.
     pub(crate) fn lone_dot<R: Row>(&mut self, row: &R) -> Result<(), Refused>
-        requires { Fits self.old (lone_dot (K.functions self.old.host.now) self.old.nib (R.pieces row.now)) }
-        ensures { Drew S.meaning S.took K.asked self.old self.new (lone_dot (K.functions self.old.host.now) self.old.nib (R.pieces row.now)) (is_ok result) }
+        requires { Fits self.old (lone_dot (K.acts.functions self.old.host.now) self.old.nib (R.pieces row.now)) }
+        ensures { Drew S.acts K.acts self.old self.new (lone_dot (K.acts.functions self.old.host.now) self.old.nib (R.pieces row.now)) (is_ok result) }
     {
         match row.get(0) {
             None => Ok(()),

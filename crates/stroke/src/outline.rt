@@ -18,8 +18,8 @@ impl<'a, S: Sink, K: MathsHost> Outliner<'a, S, K> {
         o: OffsetSegment,
         p: OffsetSegment,
     ) -> Result<(), Refused>
-        requires { Fits self.old (back_to (K.functions self.old.host.now) self.old.nib o p (other_sides_on self.old.nib (R.pieces row.now))) }
-        ensures { Drew S.meaning S.took K.asked self.old self.new (back_to (K.functions self.old.host.now) self.old.nib o p (other_sides_on self.old.nib (R.pieces row.now))) (is_ok result) }
+        requires { Fits self.old (back_to (K.acts.functions self.old.host.now) self.old.nib o p (other_sides_on self.old.nib (R.pieces row.now))) }
+        ensures { Drew S.acts K.acts self.old self.new (back_to (K.acts.functions self.old.host.now) self.old.nib o p (other_sides_on self.old.nib (R.pieces row.now))) (is_ok result) }
     {
         let back = self.walk_back(row, p)?;
         self.finish_open(back, o)
@@ -33,8 +33,8 @@ impl<'a, S: Sink, K: MathsHost> Outliner<'a, S, K> {
         e: OffsetSegment,
         p: OffsetSegment,
     ) -> Result<(), Refused>
-        requires { Fits self.old (over_and_back (K.functions self.old.host.now) self.old.nib o e p (other_sides_on self.old.nib (R.pieces row.now))) }
-        ensures { Drew S.meaning S.took K.asked self.old self.new (over_and_back (K.functions self.old.host.now) self.old.nib o e p (other_sides_on self.old.nib (R.pieces row.now))) (is_ok result) }
+        requires { Fits self.old (over_and_back (K.acts.functions self.old.host.now) self.old.nib o e p (other_sides_on self.old.nib (R.pieces row.now))) }
+        ensures { Drew S.acts K.acts self.old self.new (over_and_back (K.acts.functions self.old.host.now) self.old.nib o e p (other_sides_on self.old.nib (R.pieces row.now))) (is_ok result) }
     {
         self.cross_end(e, p)?;
         self.go_back_to(row, o, p)
@@ -48,8 +48,8 @@ impl<'a, S: Sink, K: MathsHost> Outliner<'a, S, K> {
         p: OffsetSegment,
         split: bool,
     ) -> Result<(), Refused>
-        requires { Fits self.old (on_and_back split (K.functions self.old.host.now) self.old.nib o (sides_on self.old.nib (R.pieces row.now)) p (other_sides_on self.old.nib (R.pieces row.now))) }
-        ensures { Drew S.meaning S.took K.asked self.old self.new (on_and_back split (K.functions self.old.host.now) self.old.nib o (sides_on self.old.nib (R.pieces row.now)) p (other_sides_on self.old.nib (R.pieces row.now))) (is_ok result) }
+        requires { Fits self.old (on_and_back split (K.acts.functions self.old.host.now) self.old.nib o (sides_on self.old.nib (R.pieces row.now)) p (other_sides_on self.old.nib (R.pieces row.now))) }
+        ensures { Drew S.acts K.acts self.old self.new (on_and_back split (K.acts.functions self.old.host.now) self.old.nib o (sides_on self.old.nib (R.pieces row.now)) p (other_sides_on self.old.nib (R.pieces row.now))) (is_ok result) }
     {
         let end = self.walk_there(row, o, 1, split)?;
         self.go_over_and_back(row, o, end, p)
@@ -64,8 +64,8 @@ impl<'a, S: Sink, K: MathsHost> Outliner<'a, S, K> {
         p: OffsetSegment,
         split: bool,
     ) -> Result<(), Refused>
-        requires { Fits self.old (capped_ring split (K.functions self.old.host.now) self.old.nib o (sides_on self.old.nib (R.pieces row.now)) p (other_sides_on self.old.nib (R.pieces row.now))) }
-        ensures { Drew S.meaning S.took K.asked self.old self.new (capped_ring split (K.functions self.old.host.now) self.old.nib o (sides_on self.old.nib (R.pieces row.now)) p (other_sides_on self.old.nib (R.pieces row.now))) (is_ok result) }
+        requires { Fits self.old (capped_ring split (K.acts.functions self.old.host.now) self.old.nib o (sides_on self.old.nib (R.pieces row.now)) p (other_sides_on self.old.nib (R.pieces row.now))) }
+        ensures { Drew S.acts K.acts self.old self.new (capped_ring split (K.acts.functions self.old.host.now) self.old.nib o (sides_on self.old.nib (R.pieces row.now)) p (other_sides_on self.old.nib (R.pieces row.now))) (is_ok result) }
     {
         self.begin(o)?;
         self.go_on_and_back(row, o, p, split)
@@ -73,8 +73,8 @@ impl<'a, S: Sink, K: MathsHost> Outliner<'a, S, K> {
 
     // The outline of a row with caps: nothing where it has no segments.
     fn stroke_capped<R: Row>(&mut self, row: &R, split: bool) -> Result<(), Refused>
-        requires { Fits self.old (around (capped_ring split (K.functions self.old.host.now) self.old.nib) (sides self.old.nib (R.pieces row.now)) (other_sides self.old.nib (R.pieces row.now))) }
-        ensures { Drew S.meaning S.took K.asked self.old self.new (around (capped_ring split (K.functions self.old.host.now) self.old.nib) (sides self.old.nib (R.pieces row.now)) (other_sides self.old.nib (R.pieces row.now))) (is_ok result) }
+        requires { Fits self.old (around (capped_ring split (K.acts.functions self.old.host.now) self.old.nib) (sides self.old.nib (R.pieces row.now)) (other_sides self.old.nib (R.pieces row.now))) }
+        ensures { Drew S.acts K.acts self.old self.new (around (capped_ring split (K.acts.functions self.old.host.now) self.old.nib) (sides self.old.nib (R.pieces row.now)) (other_sides self.old.nib (R.pieces row.now))) (is_ok result) }
     {
         match first_and_last(row) {
             None => Ok(()),
@@ -86,15 +86,15 @@ impl<'a, S: Sink, K: MathsHost> Outliner<'a, S, K> {
     }
 
     pub(crate) fn stroke_open<R: Row>(&mut self, row: &R) -> Result<(), Refused>
-        requires { Fits self.old (around (open_ring (K.functions self.old.host.now) self.old.nib) (sides self.old.nib (R.pieces row.now)) (other_sides self.old.nib (R.pieces row.now))) }
-        ensures { Drew S.meaning S.took K.asked self.old self.new (around (open_ring (K.functions self.old.host.now) self.old.nib) (sides self.old.nib (R.pieces row.now)) (other_sides self.old.nib (R.pieces row.now))) (is_ok result) }
+        requires { Fits self.old (around (open_ring (K.acts.functions self.old.host.now) self.old.nib) (sides self.old.nib (R.pieces row.now)) (other_sides self.old.nib (R.pieces row.now))) }
+        ensures { Drew S.acts K.acts self.old self.new (around (open_ring (K.acts.functions self.old.host.now) self.old.nib) (sides self.old.nib (R.pieces row.now)) (other_sides self.old.nib (R.pieces row.now))) (is_ok result) }
     {
         self.stroke_capped(row, false)
     }
 
     pub(crate) fn stroke_dash<R: Row>(&mut self, row: &R) -> Result<(), Refused>
-        requires { Fits self.old (around (dash_ring (K.functions self.old.host.now) self.old.nib) (sides self.old.nib (R.pieces row.now)) (other_sides self.old.nib (R.pieces row.now))) }
-        ensures { Drew S.meaning S.took K.asked self.old self.new (around (dash_ring (K.functions self.old.host.now) self.old.nib) (sides self.old.nib (R.pieces row.now)) (other_sides self.old.nib (R.pieces row.now))) (is_ok result) }
+        requires { Fits self.old (around (dash_ring (K.acts.functions self.old.host.now) self.old.nib) (sides self.old.nib (R.pieces row.now)) (other_sides self.old.nib (R.pieces row.now))) }
+        ensures { Drew S.acts K.acts self.old self.new (around (dash_ring (K.acts.functions self.old.host.now) self.old.nib) (sides self.old.nib (R.pieces row.now)) (other_sides self.old.nib (R.pieces row.now))) (is_ok result) }
     {
         self.stroke_capped(row, true)
     }

@@ -24,7 +24,7 @@ impl<'a, S: Sink, K: MathsHost> Outliner<'a, S, K> {
     #[inline(always)]
     pub(crate) fn send(&mut self, c: Command) -> Result<(), Refused>
         requires { Fits self.old (sends c ∷ []) }
-        ensures { Drew S.meaning S.took K.asked self.old self.new (sends c ∷ []) (is_ok result) }
+        ensures { Drew S.acts K.acts self.old self.new (sends c ∷ []) (is_ok result) }
     {
         self.sink.send(c)?;
         self.sent += 1;
@@ -34,7 +34,7 @@ impl<'a, S: Sink, K: MathsHost> Outliner<'a, S, K> {
     // Each command in order, up to the first refusal.
     pub(crate) fn send_all(&mut self, commands: &[Command]) -> Result<(), Refused>
         requires { Fits self.old (map sends commands.now) }
-        ensures { Drew S.meaning S.took K.asked self.old self.new (map sends commands.now) (is_ok result) }
+        ensures { Drew S.acts K.acts self.old self.new (map sends commands.now) (is_ok result) }
     {
         for c in commands {
             self.send(*c)?;
@@ -45,7 +45,7 @@ impl<'a, S: Sink, K: MathsHost> Outliner<'a, S, K> {
     // A side itself: a line to its end, or a curve with its last three points.
     pub(crate) fn emit(&mut self, segment: Segment) -> Result<(), Refused>
         requires { Fits self.old (map sends (emitted segment)) }
-        ensures { Drew S.meaning S.took K.asked self.old self.new (map sends (emitted segment)) (is_ok result) }
+        ensures { Drew S.acts K.acts self.old self.new (map sends (emitted segment)) (is_ok result) }
     {
         match segment {
             Segment::Line(_, line) => self.send(Command::LineTo(line.b)),

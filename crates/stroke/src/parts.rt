@@ -29,8 +29,8 @@ pub(crate) fn turn_between(o: OffsetSegment, p: OffsetSegment) -> Turn
 impl<'a, S: Sink, K: MathsHost> Outliner<'a, S, K> {
     #[inline(always)]
     pub(crate) fn join(&mut self, o: OffsetSegment, p: OffsetSegment) -> Result<(), Refused>
-        requires { Fits self.old (join_events (K.functions self.old.host.now) self.old.nib (turn_between o p)) }
-        ensures { Drew S.meaning S.took K.asked self.old self.new (join_events (K.functions self.old.host.now) self.old.nib (turn_between o p)) (is_ok result) }
+        requires { Fits self.old (join_events (K.acts.functions self.old.host.now) self.old.nib (turn_between o p)) }
+        ensures { Drew S.acts K.acts self.old self.new (join_events (K.acts.functions self.old.host.now) self.old.nib (turn_between o p)) (is_ok result) }
     {
         let turn = turn_between(o, p);
         let commands = join(self.nib, turn, self.host);
@@ -39,8 +39,8 @@ impl<'a, S: Sink, K: MathsHost> Outliner<'a, S, K> {
 
     #[inline(always)]
     pub(crate) fn split_join(&mut self, o: OffsetSegment, p: OffsetSegment) -> Result<(), Refused>
-        requires { Fits self.old (split_events (K.functions self.old.host.now) self.old.nib (turn_between o p)) }
-        ensures { Drew S.meaning S.took K.asked self.old self.new (split_events (K.functions self.old.host.now) self.old.nib (turn_between o p)) (is_ok result) }
+        requires { Fits self.old (split_events (K.acts.functions self.old.host.now) self.old.nib (turn_between o p)) }
+        ensures { Drew S.acts K.acts self.old self.new (split_events (K.acts.functions self.old.host.now) self.old.nib (turn_between o p)) (is_ok result) }
     {
         let turn = turn_between(o, p);
         let commands = split_join(self.nib, turn, self.host);
@@ -48,8 +48,8 @@ impl<'a, S: Sink, K: MathsHost> Outliner<'a, S, K> {
     }
 
     pub(crate) fn cap(&mut self, shape: Cap, turn: Turn) -> Result<(), Refused>
-        requires { Fits self.old (cap_events (K.functions self.old.host.now) shape self.old.nib.radius turn) }
-        ensures { Drew S.meaning S.took K.asked self.old self.new (cap_events (K.functions self.old.host.now) shape self.old.nib.radius turn) (is_ok result) }
+        requires { Fits self.old (cap_events (K.acts.functions self.old.host.now) shape self.old.nib.radius turn) }
+        ensures { Drew S.acts K.acts self.old self.new (cap_events (K.acts.functions self.old.host.now) shape self.old.nib.radius turn) (is_ok result) }
     {
         let commands = cap_commands(shape, self.nib.radius, turn, self.host);
         self.send_all(commands.as_slice())

@@ -20,8 +20,8 @@ impl<'a, S: Sink, K: MathsHost> Outliner<'a, S, K> {
     // A join and the side after it.
     #[inline(always)]
     pub(crate) fn go_forward(&mut self, o: OffsetSegment, p: OffsetSegment) -> Result<(), Refused>
-        requires { Fits self.old (one_forward (K.functions self.old.host.now) self.old.nib o p) }
-        ensures { Drew S.meaning S.took K.asked self.old self.new (one_forward (K.functions self.old.host.now) self.old.nib o p) (is_ok result) }
+        requires { Fits self.old (one_forward (K.acts.functions self.old.host.now) self.old.nib o p) }
+        ensures { Drew S.acts K.acts self.old self.new (one_forward (K.acts.functions self.old.host.now) self.old.nib o p) (is_ok result) }
     {
         self.join(o, p)?;
         self.emit(p.segment)
@@ -30,8 +30,8 @@ impl<'a, S: Sink, K: MathsHost> Outliner<'a, S, K> {
     // The join between two sides on the way back: pieces of one command get the split join.
     #[inline(always)]
     fn join_back(&mut self, o: OffsetSegment, p: OffsetSegment) -> Result<(), Refused>
-        requires { Fits self.old (back_events (K.functions self.old.host.now) self.old.nib o p) }
-        ensures { Drew S.meaning S.took K.asked self.old self.new (back_events (K.functions self.old.host.now) self.old.nib o p) (is_ok result) }
+        requires { Fits self.old (back_events (K.acts.functions self.old.host.now) self.old.nib o p) }
+        ensures { Drew S.acts K.acts self.old self.new (back_events (K.acts.functions self.old.host.now) self.old.nib o p) (is_ok result) }
     {
         if same_command(o, p) {
             self.split_join(o, p)
@@ -44,8 +44,8 @@ impl<'a, S: Sink, K: MathsHost> Outliner<'a, S, K> {
     // lengthen.
     #[inline(always)]
     pub(crate) fn go_back(&mut self, o: OffsetSegment, p: OffsetSegment) -> Result<(), Refused>
-        requires { Fits self.old (one_back (K.functions self.old.host.now) self.old.nib o p) }
-        ensures { Drew S.meaning S.took K.asked self.old self.new (one_back (K.functions self.old.host.now) self.old.nib o p) (is_ok result) }
+        requires { Fits self.old (one_back (K.acts.functions self.old.host.now) self.old.nib o p) }
+        ensures { Drew S.acts K.acts self.old self.new (one_back (K.acts.functions self.old.host.now) self.old.nib o p) (is_ok result) }
     {
         self.join_back(o, p)?;
         self.emit(p.segment)
@@ -59,8 +59,8 @@ impl<'a, S: Sink, K: MathsHost> Outliner<'a, S, K> {
         p: OffsetSegment,
         split: bool,
     ) -> Result<(), Refused>
-        requires { Fits self.old (one_there split (K.functions self.old.host.now) self.old.nib o p) }
-        ensures { Drew S.meaning S.took K.asked self.old self.new (one_there split (K.functions self.old.host.now) self.old.nib o p) (is_ok result) }
+        requires { Fits self.old (one_there split (K.acts.functions self.old.host.now) self.old.nib o p) }
+        ensures { Drew S.acts K.acts self.old self.new (one_there split (K.acts.functions self.old.host.now) self.old.nib o p) (is_ok result) }
     {
         if split {
             self.go_back(o, p)

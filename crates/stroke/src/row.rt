@@ -24,7 +24,7 @@ pub(crate) struct Run<'b, B> {
 }
 
 impl<'b, B: Storage> Row for Run<'b, B> {
-    ghost pieces = { λ r. B.held r.storage.now };
+    ghost pieces = { λ r. B.acts.held r.storage.now };
 
     fn len(&self) -> usize {
         self.storage.len()

@@ -17,14 +17,14 @@ pub(crate) struct Stretch<'b, B: Storage> {
     count: usize,
     t0: f32,
     t1: f32,
-    ghost within: { from + count ≤ length (B.held storage.now) + length (B.held storage.now) },
+    ghost within: { from + count ≤ length (B.acts.held storage.now) + length (B.acts.held storage.now) },
     ghost few: { from + count < 2 ^ 64 },
 }
 
 /// The segment at a place of the run written twice.
 #[tactic(auto, using(crate::proofs::Stretches::twice_first, crate::proofs::Stretches::twice_again))]
 pub(crate) fn twice_at<B: Storage>(storage: &B, place: usize) -> Option<Segment>
-    ensures { result ≡ slice_get (B.held storage.now ++ B.held storage.now) place }
+    ensures { result ≡ slice_get (B.acts.held storage.now ++ B.acts.held storage.now) place }
 {
     let len = storage.len();
     if place < len {
@@ -39,9 +39,9 @@ impl<'b, B: Storage> Stretch<'b, B> {
     #[tactic(auto, using(crate::proofs::Stretches::pieces_past, crate::proofs::Stretches::pieces_from))]
     pub(crate) fn new(storage: &'b B, from: usize, to: usize, t0: f32, t1: f32) -> Stretch<'b, B>
         requires order { from ≤ to }
-        requires within { to < length (B.held storage.now) + length (B.held storage.now) }
+        requires within { to < length (B.acts.held storage.now) + length (B.acts.held storage.now) }
         requires few { to + 1 < 2 ^ 64 }
-        ensures { ⟦<Stretch<'b, B> as Row>⟧.pieces result ≡ dash_pieces t0 t1 (stretch (B.held storage.now) from to) }
+        ensures { ⟦<Stretch<'b, B> as Row>⟧.pieces result ≡ dash_pieces t0 t1 (stretch (B.acts.held storage.now) from to) }
     {
         if t0 >= 1.0 {
             return Stretch {
@@ -73,7 +73,7 @@ impl<'b, B: Storage> Stretch<'b, B> {
 }
 
 impl<'b, B: Storage> Row for Stretch<'b, B> {
-    ghost pieces = { λ r. sliced r.t0 r.t1 (take r.count (drop r.from (B.held r.storage.now ++ B.held r.storage.now))) };
+    ghost pieces = { λ r. sliced r.t0 r.t1 (take r.count (drop r.from (B.acts.held r.storage.now ++ B.acts.held r.storage.now))) };
 
     #[tactic(auto, using(crate::proofs::Stretches::length_taken))]
     fn len(&self) -> usize {

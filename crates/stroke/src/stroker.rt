@@ -5,10 +5,11 @@ ghost use Rattle.cursor.specs.Giving.{left};
 ghost use Rattle.dashes.specs.PatternValues.{values};
 ghost use Rattle.dashes.specs.StepCounts.{most_steps, none_taken};
 ghost use Rattle.dashes.specs.Walks.{Within, emits};
-ghost use Rattle.stroke.specs.Calls.{clears, ends, draws, steps as one_step, twice_place, dash_actions, run_actions, run_by_run};
+ghost use Rattle.stroke.specs.Calls.{clears, ends, draws, steps as one_step, dash_actions, run_actions, run_by_run};
 ghost use Rattle.stroke.specs.Collecting.{collected, gather};
 ghost use Rattle.stroke.specs.Outcomes.{why_not};
 ghost use Rattle.stroke.specs.Outlines.{outline};
+ghost use Rattle.stroke.specs.Runs.{twice_place};
 ghost use Rattle.stroke.specs.Strokers.{FitsAll, Performed, stop_of, Undrawn, taken_in};
 
 use crate::collect::collect;
@@ -99,7 +100,7 @@ impl<'a, S: Sink, B: Storage, K: MathsHost> Stroker<'a, S, B, K> {
 
     // One dash step.
     fn spend(&mut self) -> Result<(), Reason>
-        ensures performed { Performed S.meaning S.took B.held B.capacity B.cleared B.pushed K.asked self.old self.new (one_step ∷ []) (stop_of result) }
+        ensures performed { Performed S.acts B.acts K.acts self.old self.new (one_step ∷ []) (stop_of result) }
         ensures stored { self.new.storage.now ≡ self.old.storage.now }
     {
         match self.steps.spend() {
@@ -110,8 +111,8 @@ impl<'a, S: Sink, B: Storage, K: MathsHost> Stroker<'a, S, B, K> {
 
     // The outline of the run that the storage holds.
     fn draw_plain(&mut self, closed: bool) -> Result<(), Reason>
-        requires { FitsAll self.old (map draws (outline (K.functions self.old.host.now) self.old.nib closed (B.held self.old.storage.now))) }
-        ensures { Performed S.meaning S.took B.held B.capacity B.cleared B.pushed K.asked self.old self.new (map draws (outline (K.functions self.old.host.now) self.old.nib closed (B.held self.old.storage.now))) (stop_of result) }
+        requires { FitsAll self.old (map draws (outline (K.acts.functions self.old.host.now) self.old.nib closed (B.acts.held self.old.storage.now))) }
+        ensures { Performed S.acts B.acts K.acts self.old self.new (map draws (outline (K.acts.functions self.old.host.now) self.old.nib closed (B.acts.held self.old.storage.now))) (stop_of result) }
     {
         let mut outliner = Outliner {
             sink: self.sink,
@@ -131,10 +132,10 @@ impl<'a, S: Sink, B: Storage, K: MathsHost> Stroker<'a, S, B, K> {
 
     // A dash of the run that the storage holds.
     fn draw_dash(&mut self, range: Range) -> Result<(), Reason>
-        requires within { Within (length (B.held self.old.storage.now)) range }
-        requires few { length (B.held self.old.storage.now) < 2 ^ 63 }
-        requires room { FitsAll self.old (dash_actions (K.functions self.old.host.now) self.old.nib (B.held self.old.storage.now) (emits range)) }
-        ensures performed { Performed S.meaning S.took B.held B.capacity B.cleared B.pushed K.asked self.old self.new (dash_actions (K.functions self.old.host.now) self.old.nib (B.held self.old.storage.now) (emits range)) (stop_of result) }
+        requires within { Within (length (B.acts.held self.old.storage.now)) range }
+        requires few { length (B.acts.held self.old.storage.now) < 2 ^ 63 }
+        requires room { FitsAll self.old (dash_actions (K.acts.functions self.old.host.now) self.old.nib (B.acts.held self.old.storage.now) (emits range)) }
+        ensures performed { Performed S.acts B.acts K.acts self.old self.new (dash_actions (K.acts.functions self.old.host.now) self.old.nib (B.acts.held self.old.storage.now) (emits range)) (stop_of result) }
         ensures stored { self.new.storage.now ≡ self.old.storage.now }
         ensures counted { self.new.steps ≡ self.old.steps }
     {
@@ -154,11 +155,11 @@ impl<'a, S: Sink, B: Storage, K: MathsHost> Stroker<'a, S, B, K> {
 
     // The dashes of the run that the storage holds.
     fn draw_dashed(&mut self, pattern: Pattern, closed: bool) -> Result<(), Reason>
-        requires some { 0 < length (B.held self.old.storage.now) }
-        requires few { length (B.held self.old.storage.now) < 2 ^ 63 }
+        requires some { 0 < length (B.acts.held self.old.storage.now) }
+        requires few { length (B.acts.held self.old.storage.now) < 2 ^ 63 }
         requires budget { self.old.steps.budget ≤ most_steps }
-        requires room { FitsAll self.old (run_actions (K.functions self.old.host.now) self.old.nib (Some (values pattern)) closed (B.held self.old.storage.now)) }
-        ensures { Performed S.meaning S.took B.held B.capacity B.cleared B.pushed K.asked self.old self.new (run_actions (K.functions self.old.host.now) self.old.nib (Some (values pattern.entry)) closed (B.held self.old.storage.now)) (stop_of result) }
+        requires room { FitsAll self.old (run_actions (K.acts.functions self.old.host.now) self.old.nib (Some (values pattern)) closed (B.acts.held self.old.storage.now)) }
+        ensures { Performed S.acts B.acts K.acts self.old self.new (run_actions (K.acts.functions self.old.host.now) self.old.nib (Some (values pattern.entry)) closed (B.acts.held self.old.storage.now)) (stop_of result) }
     {
         let mut dasher = Dasher::init(closed, pattern);
         while dasher.seeks() {
@@ -178,10 +179,10 @@ impl<'a, S: Sink, B: Storage, K: MathsHost> Stroker<'a, S, B, K> {
 
     // The run that the storage holds, plain or with a pattern; an empty one does nothing.
     fn draw_run(&mut self, pattern: Option<Pattern>, closed: bool) -> Result<(), Reason>
-        requires few { length (B.held self.old.storage.now) < 2 ^ 63 }
+        requires few { length (B.acts.held self.old.storage.now) < 2 ^ 63 }
         requires budget { self.old.steps.budget ≤ most_steps }
-        requires room { FitsAll self.old (run_actions (K.functions self.old.host.now) self.old.nib (option_map values pattern) closed (B.held self.old.storage.now)) }
-        ensures { Performed S.meaning S.took B.held B.capacity B.cleared B.pushed K.asked self.old self.new (run_actions (K.functions self.old.host.now) self.old.nib (option_map values pattern.entry) closed (B.held self.old.storage.now)) (stop_of result) }
+        requires room { FitsAll self.old (run_actions (K.acts.functions self.old.host.now) self.old.nib (option_map values pattern) closed (B.acts.held self.old.storage.now)) }
+        ensures { Performed S.acts B.acts K.acts self.old self.new (run_actions (K.acts.functions self.old.host.now) self.old.nib (option_map values pattern.entry) closed (B.acts.held self.old.storage.now)) (stop_of result) }
     {
         if self.storage.len() == 0 {
             return Ok(());
@@ -194,10 +195,10 @@ impl<'a, S: Sink, B: Storage, K: MathsHost> Stroker<'a, S, B, K> {
 
     // At an end that was read.
     fn end_run(&mut self, pattern: Option<Pattern>, closed: bool) -> Result<(), Reason>
-        requires few { length (B.held self.old.storage.now) < 2 ^ 63 }
+        requires few { length (B.acts.held self.old.storage.now) < 2 ^ 63 }
         requires budget { self.old.steps.budget ≤ most_steps }
-        requires room { FitsAll self.old (ends ∷ run_actions (K.functions self.old.host.now) self.old.nib (option_map values pattern) closed (B.held self.old.storage.now)) }
-        ensures { Performed S.meaning S.took B.held B.capacity B.cleared B.pushed K.asked self.old self.new (ends ∷ run_actions (K.functions self.old.host.now) self.old.nib (option_map values pattern.entry) closed (B.held self.old.storage.now)) (stop_of result) }
+        requires room { FitsAll self.old (ends ∷ run_actions (K.acts.functions self.old.host.now) self.old.nib (option_map values pattern) closed (B.acts.held self.old.storage.now)) }
+        ensures { Performed S.acts B.acts K.acts self.old self.new (ends ∷ run_actions (K.acts.functions self.old.host.now) self.old.nib (option_map values pattern.entry) closed (B.acts.held self.old.storage.now)) (stop_of result) }
     {
         self.ended += 1;
         self.draw_run(pattern, closed)
@@ -210,8 +211,8 @@ impl<'a, S: Sink, B: Storage, K: MathsHost> Stroker<'a, S, B, K> {
         pattern: Option<Pattern>,
     ) -> Result<(), Reason>
         requires budget { self.old.steps.budget ≤ most_steps }
-        requires room { FitsAll self.old (clears ∷ run_by_run (K.functions self.old.host.now) self.old.nib (option_map values pattern) [] (drawn_whole (K.functions self.old.host.now) true commands.now)) }
-        ensures { Performed S.meaning S.took B.held B.capacity B.cleared B.pushed K.asked self.old self.new (clears ∷ run_by_run (K.functions self.old.host.now) self.old.nib (option_map values pattern.entry) [] (drawn_whole (K.functions self.old.host.now) true commands.now)) (stop_of result) }
+        requires room { FitsAll self.old (clears ∷ run_by_run (K.acts.functions self.old.host.now) self.old.nib (option_map values pattern) [] (drawn_whole (K.acts.functions self.old.host.now) true commands.now)) }
+        ensures { Performed S.acts B.acts K.acts self.old self.new (clears ∷ run_by_run (K.acts.functions self.old.host.now) self.old.nib (option_map values pattern.entry) [] (drawn_whole (K.acts.functions self.old.host.now) true commands.now)) (stop_of result) }
     {
         let mut cursor = Segments::new(true);
         loop {

@@ -44,9 +44,9 @@ impl<'a, S: Sink, K: MathsHost> Outliner<'a, S, K> {
         start: usize,
         split: bool,
     ) -> Result<OffsetSegment, Refused>
-        requires { Fits self.old (there split (K.functions self.old.host.now) self.old.nib before (map (side self.old.nib) (drop start (R.pieces row.now)))) }
+        requires { Fits self.old (there split (K.acts.functions self.old.host.now) self.old.nib before (map (side self.old.nib) (drop start (R.pieces row.now)))) }
         ensures last { IfOk result (λ o. o ≡ last_side before (map (side self.old.nib) (drop start (R.pieces row.now)))) }
-        ensures drew { Drew S.meaning S.took K.asked self.old self.new (there split (K.functions self.old.host.now) self.old.nib before (map (side self.old.nib) (drop start (R.pieces row.now)))) (is_ok result) }
+        ensures drew { Drew S.acts K.acts self.old self.new (there split (K.acts.functions self.old.host.now) self.old.nib before (map (side self.old.nib) (drop start (R.pieces row.now)))) (is_ok result) }
     {
         let mut last = before;
         for i in start..row.len() {
@@ -67,9 +67,9 @@ impl<'a, S: Sink, K: MathsHost> Outliner<'a, S, K> {
         row: &R,
         before: OffsetSegment,
     ) -> Result<OffsetSegment, Refused>
-        requires { Fits self.old (backward (K.functions self.old.host.now) self.old.nib before (other_sides_on self.old.nib (R.pieces row.now))) }
+        requires { Fits self.old (backward (K.acts.functions self.old.host.now) self.old.nib before (other_sides_on self.old.nib (R.pieces row.now))) }
         ensures last { IfOk result (λ o. o ≡ last_side before (other_sides_on self.old.nib (R.pieces row.now))) }
-        ensures drew { Drew S.meaning S.took K.asked self.old self.new (backward (K.functions self.old.host.now) self.old.nib before (other_sides_on self.old.nib (R.pieces row.now))) (is_ok result) }
+        ensures drew { Drew S.acts K.acts self.old self.new (backward (K.acts.functions self.old.host.now) self.old.nib before (other_sides_on self.old.nib (R.pieces row.now))) (is_ok result) }
     {
         let mut last = before;
         for i in (0..row.len().saturating_sub(1)).rev() {

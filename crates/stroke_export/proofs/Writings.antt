@@ -2,16 +2,14 @@
 use Rattle.std.proofs.Common.{◌≡◌, ℕ, List, [], ◌∷◌, ◌++◌, Result, length, ◌-◌, refl, ap, ◌∙◌, sym, arith}
 use denote.Ref.{MutBor}
 use lib.Ieee.{Float}
-use Rattle.maths.specs.declared.host.Function.{Function}
-use Rattle.maths.specs.Functions.{Functions}
+use Rattle.maths.specs.Functions.{Functions, HostActs}
 use Rattle.path.specs.declared.command.Command.{Command}
 use Rattle.path.specs.declared.refusal.Refusal.{Refusal}
 use Rattle.path.specs.declared.style.Stroke.{Stroke}
-use Rattle.segments.specs.declared.segment.Segment.{Segment}
 use Rattle.stroke.specs.declared.tally.Tally.{Tally}
 use Rattle.stroke.specs.Outcomes.{Outcome, stroked}
 use Rattle.stroke.proofs.Seen.{seen_stroked}
-use Rattle.tape.specs.ByteSinks.{over, spelling, grown}
+use Rattle.tape.specs.ByteSinks.{over, spelling, byte_acts}
 use Rattle.tape.specs.Tapes.{price}
 use Rattle.tape.specs.declared.byte_sink.ByteSink.{ByteSink}
 use Rattle.tape.proofs.Overs.{over_grows}
@@ -23,16 +21,22 @@ use Rattle.job.specs.Sayings.{Said, said, said_by, AsMany}
 use Rattle.job.specs.Whole.{whole}
 use Rattle.job.proofs.Alikes.{says_in, same_many}
 use Rattle.stroke_export.specs.Drawings.{Drawn, Writes, said_drawn, untouched}
+use Rattle.storage.specs.Meaning.{StorageActs}
+use Rattle.sinks.specs.Meaning.{SinkActs}
 
-pub stroke_writes : {B K : Type 0} (held : B → List Segment) (capacity : B → ℕ) (cleared : B → B) (pushed : B → Segment → B) (asked : K → Function → Float → K) (budget : ℕ)
+-- the commands alone, over bytes that are lent
+abbrev commands_over : MutBor (List ℕ) → SinkActs (List Command)
+commands_over bytes = record { meaning = λ ds. spelling (over bytes ds); took = λ ds d. ds ++ (d ∷ []) }
+
+pub stroke_writes : {B K : Type 0} (storages : StorageActs B) (hosts : HostActs K) (budget : ℕ)
     (F : Functions) (cs : List Command) (style : Stroke) (dashes : List Float) (s : ByteSink) (b : B) (k : K) {r : Result Tally Refusal} {s' : ByteSink} {b' : B} {k' : K}
-    → ◌≡◌ {A = Outcome ByteSink B K} (record { answer = r; sink = s'; storage = b'; host = k' }) (stroked spelling grown held capacity cleared pushed asked budget F cs style dashes s b k) → Writes s s'
-stroke_writes held capacity cleared pushed asked budget F cs style dashes s b k e bytes is =
-    let plainly = stroked (λ ds. spelling (over bytes ds)) (λ ds d. ds ++ (d ∷ [])) held capacity cleared pushed asked budget F cs style dashes [] b k in
-    let same = seen_stroked (λ ds. spelling (over bytes ds)) (λ ds d. ds ++ (d ∷ [])) held capacity cleared pushed asked spelling grown held capacity cleared pushed asked (over bytes) (λ c. c) (λ c. c)
+    → ◌≡◌ {A = Outcome ByteSink B K} (record { answer = r; sink = s'; storage = b'; host = k' }) (stroked byte_acts storages hosts budget F cs style dashes s b k) → Writes s s'
+stroke_writes storages hosts budget F cs style dashes s b k e bytes is =
+    let plainly = stroked (commands_over bytes) storages hosts budget F cs style dashes [] b k in
+    let same = seen_stroked (commands_over bytes) storages hosts byte_acts storages hosts (over bytes) (λ c. c) (λ c. c)
     (record { means = λ ds. refl; takes_alike = λ ds d fits. over_grows bytes ds d; holds = λ c. refl; capable = λ c. refl; clears_alike = λ c. refl; pushes_alike = λ c x fits. refl; asks_alike = λ c q x. refl })
     budget F cs style dashes [] b k in
-    (plainly.sink, ap (λ (o : Outcome ByteSink _ _). o.sink) (e ∙ ap (λ t. stroked spelling grown held capacity cleared pushed asked budget F cs style dashes t b k) is ∙ sym same))
+    (plainly.sink, ap (λ (o : Outcome ByteSink _ _). o.sink) (e ∙ ap (λ t. stroked byte_acts storages hosts budget F cs style dashes t b k) is ∙ sym same))
 
 -- as records of the commands that it drew
 module _ (F : Functions) (segments : ℕ) (j : Said) (s s' : ByteSink) (fresh : s ≡ over s.bytes []) where

@@ -1,20 +1,20 @@
 -- A job's bytes read and stroked onto others.
 use Rattle.std.specs.Prelude.{◌≡◌, ℕ, List, [], length, Ok, Err, Result}
 use denote.Ref.{MutBor}
-use Rattle.maths.specs.Functions.{Functions}
+use Rattle.maths.specs.Functions.{Functions, no_host}
 use Rattle.path.specs.declared.command.Command.{Command}
 use Rattle.path.specs.declared.refusal.Refusal.{Refusal}
-use Rattle.sinks.specs.Meaning.{Meaning, joined}
+use Rattle.sinks.specs.Meaning.{Meaning, meaning_acts}
 use Rattle.job.specs.Sayings.{Said, said_by}
 use Rattle.stroke.specs.declared.tally.Tally.{Tally}
-use Rattle.stroke.specs.Histories.{Held, empty_held, stroked_held}
-use Rattle.stroke.specs.Outcomes.{Outcome}
+use Rattle.stroke.specs.Outcomes.{Outcome, stroked}
 use Rattle.tape.specs.ByteSinks.{overwritten, over}
 use Rattle.tape.specs.Decoding.{records}
 use Rattle.tape.specs.Tapes.{price}
 use Rattle.tape.specs.declared.byte_sink.ByteSink.{ByteSink}
 use Rattle.stroke_export.specs.declared.answer.Answer.{Answer}
 use Rattle.stroke_export.specs.Answers.{told}
+use Rattle.storage.specs.Meaning.{held_acts, Held, empty_held}
 
 -- the answer, and what the sink means after it
 pub record Drawn : Type 0 where
@@ -26,7 +26,7 @@ seen o = record { answer = o.answer; sink = o.sink }
 
 -- by five functions, with a storage of so many segments and the greatest budget
 abbrev pub stroke_drawn : Functions → ℕ → Said → Meaning → Drawn
-stroke_drawn F segments j m = seen (stroked_held (λ n. n) joined (λ k f x. k) 65536 F j.commands j.style j.dashes m (empty_held segments) tt)
+stroke_drawn F segments j m = seen (stroked meaning_acts held_acts (no_host F) 65536 F j.commands j.style j.dashes m (empty_held segments) tt)
 
 abbrev pub drawn_by : Functions → ℕ → Result (Unit {0}) Refusal → Said → Meaning → Drawn
 drawn_by F segments (Ok x) j m = stroke_drawn F segments j m

@@ -45,8 +45,8 @@ pub(crate) fn drawn<B: Storage, K: MathsHost>(
     storage: &mut B,
     host: &mut K,
 ) -> Answer
-    ensures answer { result ≡ told_of (job_drawn (K.functions host.old) (B.capacity storage.old) job.now (length bytes.old)) }
-    ensures bytes { bytes.new ≡ bytes_of (job_drawn (K.functions host.old) (B.capacity storage.old) job.now (length bytes.old)) bytes.old }
+    ensures answer { result ≡ told_of (job_drawn (K.acts.functions host.old) (B.acts.capacity storage.old) job.now (length bytes.old)) }
+    ensures bytes { bytes.new ≡ bytes_of (job_drawn (K.acts.functions host.old) (B.acts.capacity storage.old) job.now (length bytes.old)) bytes.old }
 {
     if job.len() < FEW_COMMANDS {
         drawn_in::<FEW_COMMANDS, B, K>(job, bytes, storage, host)
@@ -66,8 +66,8 @@ fn drawn_in<const N: usize, B: Storage, K: MathsHost>(
 ) -> Answer
     requires few { N ≤ 4096 }
     requires many { AsMany job.now N 4096 }
-    ensures answer { result ≡ told_of (job_drawn (K.functions host.old) (B.capacity storage.old) job.now (length bytes.old)) }
-    ensures bytes { bytes.new ≡ bytes_of (job_drawn (K.functions host.old) (B.capacity storage.old) job.now (length bytes.old)) bytes.old }
+    ensures answer { result ≡ told_of (job_drawn (K.acts.functions host.old) (B.acts.capacity storage.old) job.now (length bytes.old)) }
+    ensures bytes { bytes.new ≡ bytes_of (job_drawn (K.acts.functions host.old) (B.acts.capacity storage.old) job.now (length bytes.old)) bytes.old }
 {
     let mut commands = [Command::MoveTo(ORIGIN); N];
     let mut dashes = [0.0; MOST_DASHES];
@@ -77,8 +77,8 @@ fn drawn_in<const N: usize, B: Storage, K: MathsHost>(
 
 // With a storage of 4,096 segments.
 pub(crate) fn drawn_long<K: MathsHost>(job: &[u8], bytes: &mut [u8], host: &mut K) -> Answer
-    ensures answer { result ≡ told_of (job_drawn (K.functions host.old) 4096 job.now (length bytes.old)) }
-    ensures bytes { bytes.new ≡ bytes_of (job_drawn (K.functions host.old) 4096 job.now (length bytes.old)) bytes.old }
+    ensures answer { result ≡ told_of (job_drawn (K.acts.functions host.old) 4096 job.now (length bytes.old)) }
+    ensures bytes { bytes.new ≡ bytes_of (job_drawn (K.acts.functions host.old) 4096 job.now (length bytes.old)) bytes.old }
 {
     let mut places = [Segment::Line(SegmentId::first(), Line::new(ORIGIN, ORIGIN)); MOST_SEGMENTS];
     drawn(job, bytes, &mut LentStorage::new(&mut places), host)
@@ -92,8 +92,8 @@ fn drawn_in_lists<B: Storage, K: MathsHost>(
     storage: &mut B,
     host: &mut K,
 ) -> Answer
-    ensures answer { result ≡ told_of (said_drawn (K.functions host.old) (B.capacity storage.old) (said (whole (start job.entry) read.old)) (untouched (length bytes.old))) }
-    ensures bytes { bytes.new ≡ bytes_of (said_drawn (K.functions host.old) (B.capacity storage.old) (said (whole (start job.entry) read.old)) (untouched (length bytes.old))) bytes.old }
+    ensures answer { result ≡ told_of (said_drawn (K.acts.functions host.old) (B.acts.capacity storage.old) (said (whole (start job.entry) read.old)) (untouched (length bytes.old))) }
+    ensures bytes { bytes.new ≡ bytes_of (said_drawn (K.acts.functions host.old) (B.acts.capacity storage.old) (said (whole (start job.entry) read.old)) (untouched (length bytes.old))) bytes.old }
 {
     let mut sink = ByteSink::new(bytes);
     let drawn = drawn_as_records(job, read, &mut sink, storage, host);
@@ -109,8 +109,8 @@ fn drawn_as_records<B: Storage, K: MathsHost>(
     host: &mut K,
 ) -> Result<Tally, Refusal>
     requires { sink.old ≡ over sink.old.bytes [] }
-    ensures answer { result ≡ (said_drawn (K.functions host.old) (B.capacity storage.old) (said (whole (start bytes.entry) job.old)) (untouched (length sink.old.bytes.now))).answer }
-    ensures sink { sink.new ≡ over sink.old.bytes (said_drawn (K.functions host.old) (B.capacity storage.old) (said (whole (start bytes.entry) job.old)) (untouched (length sink.old.bytes.now))).sink.list }
+    ensures answer { result ≡ (said_drawn (K.acts.functions host.old) (B.acts.capacity storage.old) (said (whole (start bytes.entry) job.old)) (untouched (length sink.old.bytes.now))).answer }
+    ensures sink { sink.new ≡ over sink.old.bytes (said_drawn (K.acts.functions host.old) (B.acts.capacity storage.old) (said (whole (start bytes.entry) job.old)) (untouched (length sink.old.bytes.now))).sink.list }
 {
     read_and_drawn(bytes, job, sink, storage, host)
 }
@@ -123,7 +123,7 @@ fn read_and_drawn<B: Storage, K: MathsHost>(
     storage: &mut B,
     host: &mut K,
 ) -> Result<Tally, Refusal>
-    ensures outcome { let o = said_drawn (K.functions host.old) (B.capacity storage.old) (said (whole (start bytes.entry) job.old)) (spelling sink.old) in (result ≡ o.answer) × (spelling sink.new ≡ o.sink) }
+    ensures outcome { let o = said_drawn (K.acts.functions host.old) (B.acts.capacity storage.old) (said (whole (start bytes.entry) job.old)) (spelling sink.old) in (result ≡ o.answer) × (spelling sink.new ≡ o.sink) }
     ensures writes { Writes sink.old sink.new }
 {
     JobReader::new(bytes).read(job)?;

@@ -9,7 +9,7 @@ use Rattle.codec.specs.Spelling.{Fitting}
 use Rattle.codec.specs.Writing.{written, record_of, fits, size_written, with_record}
 use Rattle.sinks.specs.Meaning.{takes, after}
 use Rattle.tape.specs.Decoding.{records, commands_in, Spells}
-use Rattle.tape.specs.Tapes.{Written, spelling, grown}
+use Rattle.tape.specs.Tapes.{Written, spelling, grown, tape_acts}
 use Rattle.tape.specs.TapeLaws.{priced, length_written}
 use Rattle.tape.proofs.Decodings.{spells_more}
 
@@ -62,7 +62,7 @@ pub used : (bytes : List ℕ) (count : ℕ) → Holds bytes count → length (re
 used bytes count (within, spells) = ap length (sym spells.whole) ∙ length-take-le count bytes within
 
 pub after_taken : (bytes : MutBor (List ℕ)) (count : ℕ) (c : Command) (size : ℕ) {new : List ℕ} → Holds bytes.now count → Taken bytes.now count c size new
-    → record { commands = commands_in (take (count + size) new); bytes = at_last bytes new } ≡ after spelling grown (record { commands = commands_in (take count bytes.now); bytes = bytes }) c
+    → record { commands = commands_in (take (count + size) new); bytes = at_last bytes new } ≡ after tape_acts (record { commands = commands_in (take count bytes.now); bytes = bytes }) c
 after_taken bytes count c size {new} holds t =
     let w : Written = record { commands = commands_in (take count bytes.now); bytes = bytes } in
     let place : length (records w.commands) ≡ count = used bytes.now count holds in

@@ -3,7 +3,7 @@ use Rattle.std.specs.Prelude.{ℕ, ◌+◌, ◌-◌, List, [], ◌∷◌, ◌++�
 use denote.Ref.{MutBor, at_last}
 use Rattle.path.specs.declared.command.Command.{Command}
 use Rattle.codec.specs.Writing.{written, record_of}
-use Rattle.sinks.specs.Meaning.{Meaning}
+use Rattle.sinks.specs.Meaning.{Meaning, SinkActs}
 use Rattle.tape.specs.Decoding.{records}
 use Rattle.tape.specs.Tapes.{price}
 use Rattle.tape.specs.declared.byte_sink.ByteSink.{ByteSink}
@@ -27,3 +27,6 @@ grown s c = record {
   used = s.used + length (record_of c);
   taken = record { commands = s.taken.commands ++ (c ∷ []) };
 }
+
+abbrev pub byte_acts : SinkActs ByteSink
+byte_acts = record { meaning = spelling; took = grown }

@@ -4,7 +4,7 @@ use denote.Ref.{MutBor, at_last}
 use Rattle.path.specs.declared.command.Command.{Command}
 use Rattle.path.specs.Kinds.{Kind, move, line, curve, quad, close}
 use Rattle.codec.specs.Writing.{written, record_of}
-use Rattle.sinks.specs.Meaning.{Meaning}
+use Rattle.sinks.specs.Meaning.{Meaning, SinkActs}
 use Rattle.tape.specs.Decoding.{records}
 
 -- the commands taken, and all the bytes: first the commands' records, then what the places after them held
@@ -30,3 +30,6 @@ spelling w = record { list = w.commands; units = length w.bytes.now - length (re
 -- with one command more: only its record is written
 abbrev pub grown : Written → Command → Written
 grown w c = record { commands = w.commands ++ (c ∷ []); bytes = at_last w.bytes (written w.bytes.now (length (records w.commands)) (record_of c)) }
+
+abbrev pub tape_acts : SinkActs Written
+tape_acts = record { meaning = spelling; took = grown }

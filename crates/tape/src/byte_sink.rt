@@ -1,5 +1,5 @@
 ghost use Rattle.std.specs.Prelude.{◌≡◌, [], refl};
-ghost use Rattle.tape.specs.ByteSinks.{over, spelling, grown};
+ghost use Rattle.tape.specs.ByteSinks.{over, byte_acts};
 ghost use Rattle.tape.specs.ByteSinkLaws.{spelling_grows};
 
 use crate::history::History;
@@ -38,9 +38,7 @@ impl<'a> ByteSink<'a> {
 }
 
 impl<'a> Sink for ByteSink<'a> {
-    ghost meaning = { spelling };
-
-    ghost took = { grown };
+    ghost acts = { byte_acts };
 
     ghost kept = { λ s c. refl };
 

@@ -1,7 +1,7 @@
 ghost use Rattle.std.specs.Prelude.{◌≡◌, ◌<◌, ◌^◌, length, refl};
 ghost use Rattle.tape.specs.Decoding.{records, command_of};
 ghost use Rattle.tape.specs.ReadBack.{ReadsBack, Before, ReadsNext};
-ghost use Rattle.tape.specs.Tapes.{blank, spelling, grown};
+ghost use Rattle.tape.specs.Tapes.{blank, tape_acts};
 ghost use Rattle.tape.specs.TapeLaws.{spelling_grows};
 
 use codec::item::Item;
@@ -80,9 +80,7 @@ fn command_of(item: Item) -> Option<Command>
 }
 
 impl<'a> Sink for Tape<'a> {
-    ghost meaning = { spelling };
-
-    ghost took = { grown };
+    ghost acts = { tape_acts };
 
     ghost kept = { λ w c. refl };
 

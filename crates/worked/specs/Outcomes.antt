@@ -1,5 +1,5 @@
 -- How the outcome of a worked stroke is told.
-use Rattle.std.specs.Prelude.{◌≡◌, ℕ, zero as zeroⁿ, suc, ◌-◌, ℤ, pos, negsuc, Bool, false, cond, List, [], ◌∷◌, length, Ok, Err, Result, Some, None, Option, Float}
+use Rattle.std.specs.Prelude.{◌≡◌, ℕ, ◌-◌, ℤ, pos, negsuc, Bool, false, List, [], ◌∷◌, length, Ok, Err, Result, Some, None, Option, Float}
 use Rattle.maths.specs.Functions.{Functions}
 use Rattle.path.specs.declared.command.Command.{Command}
 use Rattle.path.specs.declared.command.Command.TheVariants.{Close}
@@ -7,11 +7,11 @@ use Rattle.path.specs.declared.refusal.Reason.TheVariants.{StepsSpent}
 use Rattle.path.specs.declared.refusal.Refusal.{Refusal}
 use Rattle.sinks.specs.Meaning.{Meaning}
 use Rattle.dashes.specs.declared.dasher.Range.{Range}
-use Rattle.dashes.specs.declared.dasher.walk.Walk.{Walk}
-use Rattle.dashes.specs.Dashers.{begun, seeks, sought, first_dash}
+use Rattle.dashes.specs.Dashers.{begun, first_dash}
 use Rattle.dashes.specs.Patterns.{Dashes, pattern_of}
 use Rattle.dashes.specs.StepCounts.{most_steps}
-use Rattle.stroke.specs.Histories.{Call, made, actions_of, ranges_in}
+use Rattle.dashes.specs.Walks.{passed}
+use Rattle.stroke.specs.Histories.{Call, made, row_of, steps_of, ranges_of, taken_of}
 use Rattle.stroke.specs.declared.tally.Tally.{Tally}
 use Rattle.worked.specs.declared.Worked.{Worked}
 use Rattle.worked.specs.Inputs.{from, to, commands_of, style_of, dashes_of}
@@ -44,17 +44,22 @@ Strokes w answer cs = Leaves w most_steps answer cs
 abbrev pub bar : ℤ → ℤ → List Command
 bar a b = from a (negsuc 0) ∷ to b (negsuc 0) ∷ to b (pos 1) ∷ to a (pos 1) ∷ to a (negsuc 0) ∷ Close ∷ []
 
--- the ranges of its dashes, each with the number of segments of its run
-abbrev pub Ranges : Worked → List (ℕ × Range) → Type 0
-Ranges w rs = (F : Functions) → ranges_in (actions_of (call F w most_steps (done 0 0))) ≡ rs
+-- as far as its runs count: with any storage, budget and answer
+abbrev pub drawn_by : Functions → Worked → Call
+drawn_by F w = call F w 0 (done 0 0)
+
+-- Its runs come to this row, so many steps and these ranges, each with the number of segments of its run, whatever the functions are.
+pub record Comes (w : Worked) (cs : List Command) (n : ℕ) (rs : List (ℕ × Range)) : Type 0 where
+  pub row : (F : Functions) → row_of (drawn_by F w) ≡ cs
+  pub steps : (F : Functions) → steps_of (drawn_by F w) ≡ n
+  pub ranges : (F : Functions) → ranges_of (drawn_by F w) ≡ rs
+
+-- all that its walks take, gaps and a dash that waits too
+abbrev pub Takes : Worked → List (ℕ × Range) → Type 0
+Takes w rs = (F : Functions) → taken_of (drawn_by F w) ≡ rs
 
 abbrev pub range : ℤ → ℤ → Float → Float → Range
 range first last t0 t1 = record { start = first; end = last; t0 = t0; t1 = t1 }
-
--- where a run begins in a pattern: the lengths up to the offset are passed over
-unfoldable pub passed : ℕ → Dashes → Walk → Walk
-passed zeroⁿ p w = w
-passed (suc n) p w = cond (seeks p w) (passed n p (sought p w)) w
 
 -- what the offset leaves of the dash or gap there, and whether it is a dash
 abbrev pub first_of : Dashes → Bool × Float

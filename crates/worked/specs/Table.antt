@@ -1,13 +1,15 @@
 -- What comes of the worked strokes. Rows are told in whole coordinates; negsuc 0 is -1.
-use Rattle.std.specs.Prelude.{◌≡◌, ℕ, pos, negsuc, true, false, List, [], ◌∷◌, ◌++◌, Float}
-use Rattle.numbers.specs.Arithmetic.{zero, one}
+use Rattle.std.specs.Prelude.{◌≡◌, ℕ, ℤ, pos, negsuc, true, false, List, [], ◌∷◌, ◌++◌, from_bits, Float}
+use Rattle.std.specs.Float.{binary32}
+use Rattle.numbers.specs.Arithmetic.{◌⊕◌, ◌⊗◌, zero, one}
 use Rattle.path.specs.declared.command.Command.{Command}
 use Rattle.path.specs.declared.command.Command.TheVariants.{Close}
+use Rattle.dashes.specs.declared.dasher.Range.{Range}
 use Rattle.curves.specs.Curves.{half}
 use Rattle.curvature.specs.Roots.{sorted, distinct}
 use Rattle.worked.specs.declared.Worked.TheVariants.{Line, DashedLine, DashedSquare, SquareDot, ButtDot, Corner, GapFirst, DashFirst, EmptyGap, ShortGap, ShortAlone, OneAlone}
 use Rattle.worked.specs.Inputs.{whole, from, to}
-use Rattle.worked.specs.Outcomes.{done, spent, bar, Leaves, Strokes, Ranges, range, Dashed, Plain}
+use Rattle.worked.specs.Outcomes.{done, spent, bar, Leaves, Strokes, Comes, Takes, range, Dashed, Plain}
 
 -- ---- longer rows
 
@@ -54,8 +56,7 @@ pub record Table : Type 0 where
   -- with a budget of 5 the sixth step is refused, after both dashes
   pub dashed_line : Strokes DashedLine (done 12 6) two_bars × Leaves DashedLine 5 (spent 12) two_bars
   -- the second dash begins on the last side and goes on over the start
-  pub dashed_square : Ranges DashedSquare ((4, range (pos 2) (pos 3) zero half) ∷ (4, range (negsuc 0) (pos 1) one half) ∷ [])
-      × Strokes DashedSquare (done 22 6) (last_corner ++ first_corner 4)
+  pub dashed_square : Strokes DashedSquare (done 22 6) (last_corner ++ first_corner 4)
   pub square_dot : Strokes SquareDot (done 7 0) dot
   pub butt_dot : Strokes ButtDot (done 5 0) flat_dot
   pub corner : Strokes Corner (done 11 0) (first_corner 8)
@@ -67,3 +68,28 @@ pub record Table : Type 0 where
   pub short : Plain ShortGap (bar (pos 0) (pos 8)) × Plain ShortAlone (bar (pos 0) (pos 8)) × Dashed OneAlone true one (done 24 10) four_bars
   -- of two equal roots one is kept, and where the first two are equal the third is dropped too
   pub roots : (kept zero zero half ≡ zero ∷ []) × (kept zero half half ≡ zero ∷ half ∷ [])
+
+-- ---- by their runs
+
+abbrev pub quarter : Float
+quarter = half ⊗ half
+
+-- on the one segment of a line
+abbrev pub on_line : Float → Float → ℕ × Range
+on_line t0 t1 = (1, range (pos 0) (pos 0) t0 t1)
+
+abbrev pub on_square : ℤ → ℤ → Float → Float → ℕ × Range
+on_square first last t0 t1 = (4, range first last t0 t1)
+
+pub record ByRuns : Type 0 where
+  pub line : Comes Line (bar (pos 0) (pos 8)) 0 []
+  -- the third dash is a point between two butt caps
+  pub dashed_line : Comes DashedLine two_bars 6 (on_line zero quarter ∷ on_line half (half ⊕ quarter) ∷ on_line one one ∷ [])
+  pub dashed_square : Comes DashedSquare (last_corner ++ first_corner 4) 6 (on_square (pos 2) (pos 3) zero half ∷ on_square (negsuc 0) (pos 1) one half ∷ [])
+  -- a dash that waits, a gap, a dash, a gap, the dash over the start, and a last call where the run is over
+  pub square_taken : Takes DashedSquare
+      (on_square (pos 0) (pos 1) zero half ∷ on_square (pos 1) (pos 1) half one ∷ on_square (pos 2) (pos 3) zero half ∷ on_square (pos 3) (pos 3) half one
+      ∷ on_square (negsuc 0) (pos 1) one half ∷ on_square (pos 1) (pos 1) half half ∷ [])
+  pub square_dot : Comes SquareDot dot 0 []
+  pub corner : Comes Corner (first_corner 8) 0 []
+  pub empty_gap : Comes EmptyGap (bar (pos 0) (pos 7) ++ bar (pos 9) (pos 16)) 4 (on_line zero (from_bits binary32 0x3EE0_0000) ∷ on_line (from_bits binary32 0x3F10_0000) one ∷ [])

@@ -3,7 +3,7 @@
 
 ghost use Rattle.std.specs.Prelude.{◌≡◌};
 ghost use Rattle.worked.specs.Inputs.{commands_of, style_of, cap_of, offset_of, dashes_of, all};
-ghost use Rattle.worked.specs.Table.{Table};
+ghost use Rattle.worked.specs.Table.{ByRuns, Table};
 
 mod twice;
 
@@ -135,11 +135,13 @@ impl Worked {
     }
 }
 
-/// All of them. What comes of each is worked out in the table.
-#[tactic(auto, using(crate::proofs::Table::table))]
+/// All of them. What comes of each is worked out in the table, and in another what
+/// their runs define.
+#[tactic(auto, using(crate::proofs::Table::table, crate::proofs::Table::by_runs))]
 pub fn worked_strokes() -> [Worked; 12]
     ensures all { result ≡ all }
     ensures table { Table }
+    ensures by_runs { ByRuns }
 {
     [
         Worked::Line,

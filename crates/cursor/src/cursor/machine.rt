@@ -108,8 +108,8 @@ impl Machine {
         to: Point,
         host: &mut K,
     ) -> Option<Segment>
-        ensures machine { turn result (state self.new) ≡ curved (K.functions host.old) (state self.old) curve to }
-        ensures host { host.new ≡ all_asked K.asked host.old (curve_questions (K.functions host.old) (state self.old) curve) }
+        ensures machine { turn result (state self.new) ≡ curved (K.acts.functions host.old) (state self.old) curve to }
+        ensures host { host.new ≡ all_asked K.acts.asked host.old (curve_questions (K.acts.functions host.old) (state self.old) curve) }
     {
         if self.split {
             let pieces = split_curve(curve, host);

@@ -34,7 +34,7 @@ impl Segments {
     #[inline(always)]
     fn step<K: MathsHost>(&mut self, commands: &[Command], host: &mut K) -> Option<Option<Segment>>
         ensures waits { is_some result ≡ waits (seen self.old) (rest self.old commands.now) }
-        ensures whole { record { gave = option_flatten result; after = seen self.new; place = self.new.place; host = host.new } ≡ done K.asked self.old.place host.old (step (K.functions host.old) (seen self.old) (rest self.old commands.now)) }
+        ensures whole { record { gave = option_flatten result; after = seen self.new; place = self.new.place; host = host.new } ≡ done K.acts.asked self.old.place host.old (step (K.acts.functions host.old) (seen self.old) (rest self.old commands.now)) }
     {
         let from = self.machine.subpath.prev;
         match (
@@ -78,8 +78,8 @@ impl Segments {
     /// earlier calls; the host is asked where a curve is cut.
     #[inline(always)]
     pub fn next<K: MathsHost>(&mut self, commands: &[Command], host: &mut K) -> Option<Segment>
-        ensures whole { record { gave = result; after = seen self.new; place = self.new.place; host = host.new } ≡ done K.asked self.old.place host.old (next_of (K.functions host.old) (seen self.old) (rest self.old commands.now)) }
-        ensures head { GivesHead (K.functions host.old) (seen self.old) (rest self.old commands.now) result (seen self.new) (rest self.new commands.now) }
+        ensures whole { record { gave = result; after = seen self.new; place = self.new.place; host = host.new } ≡ done K.acts.asked self.old.place host.old (next_of (K.acts.functions host.old) (seen self.old) (rest self.old commands.now)) }
+        ensures head { GivesHead (K.acts.functions host.old) (seen self.old) (rest self.old commands.now) result (seen self.new) (rest self.new commands.now) }
     {
         // a step may give nothing while something is still to come
         while let Some(given) = self.step(commands, host) {

@@ -16,7 +16,7 @@ pub(crate) struct Reach {
 
 // The reach of a dash of a length that begins on a segment at a distance along it.
 pub(crate) fn find_reach<B: Storage>(storage: &B, start: usize, along: f32, len: f32) -> Reach
-    ensures { result ≡ reach (B.held storage.now) start along len }
+    ensures { result ≡ reach (B.acts.held storage.now) start along len }
 {
     let mut goal = len + along;
     let mut last = Reach {

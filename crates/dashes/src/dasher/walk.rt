@@ -193,7 +193,7 @@ impl Walk {
 
     // How far a length comes from here; a length of 0 stays.
     fn reach<B: Storage>(self, storage: &B, len: f32) -> Reach
-        ensures { result ≡ reach_of (B.held storage.now) self len }
+        ensures { result ≡ reach_of (B.acts.held storage.now) self len }
     {
         if len == 0.0 {
             Reach {
@@ -208,13 +208,13 @@ impl Walk {
     }
 
     fn first_reach<B: Storage>(self, pattern: Pattern, storage: &B) -> Reach
-        ensures { result ≡ first_reach (values pattern.entry) (B.held storage.now) self }
+        ensures { result ≡ first_reach (values pattern.entry) (B.acts.held storage.now) self }
     {
         find_reach(storage, 0, 0.0, self.first_dash(pattern))
     }
 
     fn span<B: Storage>(self, pattern: Pattern, storage: &B, reach: Reach, course: Course) -> Span
-        ensures { result ≡ span_of (values pattern.entry) (B.held storage.now) self reach course }
+        ensures { result ≡ span_of (values pattern.entry) (B.acts.held storage.now) self reach course }
     {
         match course {
             Course::Joined => Span::to(
@@ -285,10 +285,10 @@ impl Walk {
 
     // Walks a length that reaches so far from here.
     fn walk<B: Storage>(self, pattern: Pattern, storage: &B, index: usize, reach: Reach) -> Next
-        requires number { length (B.held storage.now) < 2 ^ 63 }
-        requires start { self.cur < length (B.held storage.now) }
-        requires end { reach.at < length (B.held storage.now) }
-        ensures { result ≡ walked (values pattern.entry) (B.held storage.now) self index reach }
+        requires number { length (B.acts.held storage.now) < 2 ^ 63 }
+        requires start { self.cur < length (B.acts.held storage.now) }
+        requires end { reach.at < length (B.acts.held storage.now) }
+        ensures { result ≡ walked (values pattern.entry) (B.acts.held storage.now) self index reach }
     {
         let course = choose_course(
             reach.arrived,
@@ -333,7 +333,7 @@ impl Walk {
 
     // One dash or gap more along the run.
     pub(crate) fn next<B: Storage>(self, pattern: Pattern, storage: &B) -> Next
-        ensures { result ≡ next_of (values pattern.entry) (B.held storage.now) self }
+        ensures { result ≡ next_of (values pattern.entry) (B.acts.held storage.now) self }
     {
         let count = storage.len();
         if !self.goes_on(count) {

@@ -5,7 +5,7 @@ use Rattle.arc.proofs.sending.send_all.Goals as goal
 
 pub returns-then-is_err : goal.returns-then-is_err
 returns-then-is_err g c =
-    let all = stops g.S.Sink.meaning g.S.Sink.took c.args.commands.now c.loop-c.c-index _ c.loop-c.sink c.loop-c.sent c.loop-c-test.true c.send.ensures.answer (sym c.is_err.ensures.value ∙ c.if-is_err.true) c.send.ensures.after c.loop-c.invariant.left in
+    let all = stops g.S.Sink.acts c.args.commands.now c.loop-c.c-index _ c.loop-c.sink c.loop-c.sent c.loop-c-test.true c.send.ensures.answer (sym c.is_err.ensures.value ∙ c.if-is_err.true) c.send.ensures.after c.loop-c.invariant.left in
     record {
       answer = ap Err c.refused_after.ensures ∙ ap sent_answer all;
       sink = ap (λ d. d.sink) all;
@@ -13,13 +13,13 @@ returns-then-is_err g c =
 
 pub loop-c-preserved : goal.loop-c-preserved
 loop-c-preserved g c = record {
-  left = goes_on g.S.Sink.meaning g.S.Sink.took c.args.commands.now c.loop-c.c-index _ c.loop-c.sink c.loop-c.sent c.loop-c-test.true c.send.ensures.answer (sym c.is_err.ensures.value ∙ c.if-is_err.false) c.send.ensures.after c.loop-c.invariant.left;
+  left = goes_on g.S.Sink.acts c.args.commands.now c.loop-c.c-index _ c.loop-c.sink c.loop-c.sent c.loop-c-test.true c.send.ensures.answer (sym c.is_err.ensures.value ∙ c.if-is_err.false) c.send.ensures.after c.loop-c.invariant.left;
   count = omega (arith, c.loop-c.invariant.count);
 }
 
 pub returns : goal.returns
 returns g c =
-    let all = none_left g.S.Sink.meaning g.S.Sink.took c.args.commands.now c.loop-c.c-index c.loop-c.sink c.loop-c.sent (omega (arith, c.loop-c-test.false)) c.loop-c.invariant.left in
+    let all = none_left g.S.Sink.acts c.args.commands.now c.loop-c.c-index c.loop-c.sink c.loop-c.sent (omega (arith, c.loop-c-test.false)) c.loop-c.invariant.left in
     record {
       answer = ap sent_answer all;
       sink = ap (λ d. d.sink) all;

@@ -10,8 +10,8 @@ use Rattle.arcs.proofs.ellipse.arc_curves.Goals as goal
 pub returns : goal.returns
 unfolding arc_curves arc_questions
 returns g c =
-    let functions = g.K.MathsHost.functions in
-    let asked = g.K.MathsHost.asked in
+    let functions = g.K.MathsHost.acts.functions in
+    let asked = g.K.MathsHost.acts.asked in
     let host = c.args.host.now in
     let arc = c.args.arc in
     let F = functions host in
@@ -21,7 +21,7 @@ returns g c =
     let some : no_chord chord ≡ false = sym (ap no_chord half) ∙ sym c.has_no_chord.ensures ∙ c.if-has_no_chord.false in
     let centre : c.find_centre.result ≡ centred_of F c.args.scaled arc = c.find_centre.ensures ∙ (λ i. centred arc (turned i) (half i) c.args.scaled) in
     let after = c.turned.ensures.host in
-    let kept : functions c.turned.new.host ≡ F = ap functions after ∙ asked_same asked functions g.met.K.MathsHost.same host (round_questions arc.angle) in
+    let kept : functions c.turned.new.host ≡ F = ap functions after ∙ asked_same g.K.MathsHost.acts g.met.K.MathsHost.same host (round_questions arc.angle) in
     let rest = round_all_questions F arc (centred_of F c.args.scaled arc) in
     record {
       answer = c.curves_round.ensures.answer ∙ (λ i. round_curves (kept i) arc (turned i) (centre i)) ∙ sym (cond-false (no_chord chord) _ _ some);

@@ -13,7 +13,7 @@ loop-i-preserved g c =
     let t = c.loop-i.angle in
     let each = c.args.sweep.each in
     let inv = c.loop-i.invariant in
-    let F = g.K.MathsHost.functions c.args.host.now in
+    let F = g.K.MathsHost.acts.functions c.args.host.now in
     let items = c.loop-i.curves.items in
     let spare = c.loop-i.curves.spare in
     let room : 0 < length spare = omega (arith, inv.room, c.loop-i-test.true, c.requires) in
@@ -23,6 +23,6 @@ loop-i-preserved g c =
     record {
       same = search rules;
       drawn = curves_more c.args.sweep.count c.loop-i.i F e t each items c.loop-i-test.true drawn inv.drawn;
-      answered = questions_more g.K.MathsHost.asked c.args.sweep.count c.loop-i.i t each c.loop-i.host c.loop-i-test.true c.curve_at.ensures.host inv.answered;
+      answered = questions_more g.K.MathsHost.acts.asked c.args.sweep.count c.loop-i.i t each c.loop-i.host c.loop-i-test.true c.curve_at.ensures.host inv.answered;
       room = search rules;
     }

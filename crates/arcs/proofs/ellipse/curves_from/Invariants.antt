@@ -6,8 +6,8 @@ use Rattle.arcs.proofs.ellipse.curves_from.Given as goal
 -- the curves so far with those that are left are all of them, and so with the questions
 abbrev pub invariant-loop-i : goal.invariant-loop-i
 invariant-loop-i g l =
-    let functions = g.K.MathsHost.functions in
-    let asked = g.K.MathsHost.asked in
+    let functions = g.K.MathsHost.acts.functions in
+    let asked = g.K.MathsHost.acts.asked in
     let F = functions l.initial.host in
     let n = l.sweep.count in
     record {

@@ -3,4 +3,4 @@ use Rattle.curvature.specs.Roots.{roots}
 use Rattle.curvature.proofs.bend.max_curvature.Goals as goal
 
 pub returns-clause-answer : goal.returns-clause-answer
-returns-clause-answer g c = c.solve.ensures.answer ∙ ap (roots (g.K.MathsHost.functions c.args.host.now)) c.bend.ensures
+returns-clause-answer g c = c.solve.ensures.answer ∙ ap (roots (g.K.MathsHost.acts.functions c.args.host.now)) c.bend.ensures

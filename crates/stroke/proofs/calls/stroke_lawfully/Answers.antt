@@ -1,3 +1,4 @@
+use Rattle.stroke.proofs.Added.{took_by}
 use Rattle.stroke.proofs.Calling.{functions_kept}
 use Rattle.stroke.proofs.Lawfully.{law_of_call}
 use Rattle.stroke.proofs.Seen.{whole_held, promised_by}
@@ -5,26 +6,31 @@ use Rattle.stroke.proofs.calls.stroke_lawfully.Goals as goal
 
 pub returns-clause-seen : goal.returns-clause-seen
 returns-clause-seen g c = let b = g.met.B.Storage in
-    let e = whole_held g.S.Sink.meaning g.S.Sink.took g.B.Storage.held g.B.Storage.capacity g.B.Storage.cleared g.B.Storage.pushed g.K.MathsHost.asked
+    let e = whole_held g.S.Sink.acts g.B.Storage.acts g.K.MathsHost.acts
     (record { empties = b.empties; same_cleared = b.same_cleared; grows = b.grows; same_pushed = b.same_pushed })
-    c.args.budget (g.K.MathsHost.functions c.args.host.now) c.args.commands.now c.args.style c.args.dashes.now c.args.sink.now c.args.storage.now c.args.host.now
+    c.args.budget (g.K.MathsHost.acts.functions c.args.host.now) c.args.commands.now c.args.style c.args.dashes.now c.args.sink.now c.args.storage.now c.args.host.now
     c.admit_and_draw.ensures in
     ((λ i. (e i).answer), (λ i. (e i).sink), (λ i. (e i).host))
 
 pub returns-clause-functions : goal.returns-clause-functions
 returns-clause-functions g c =
-    functions_kept g.S.Sink.meaning g.S.Sink.took g.B.Storage.held g.B.Storage.capacity g.B.Storage.cleared g.B.Storage.pushed g.K.MathsHost.asked g.K.MathsHost.functions g.met.K.MathsHost.same
-    c.args.budget (g.K.MathsHost.functions c.args.host.now) c.args.commands.now c.args.style c.args.dashes.now c.args.sink.now c.args.storage.now c.args.host.now c.admit_and_draw.ensures
+    functions_kept g.S.Sink.acts g.B.Storage.acts g.K.MathsHost.acts g.met.K.MathsHost.same
+    c.args.budget (g.K.MathsHost.acts.functions c.args.host.now) c.args.commands.now c.args.style c.args.dashes.now c.args.sink.now c.args.storage.now c.args.host.now c.admit_and_draw.ensures
 
 pub returns-clause-promised : goal.returns-clause-promised
 returns-clause-promised g c = let b = g.met.B.Storage in
-    promised_by g.S.Sink.meaning g.S.Sink.took g.B.Storage.held g.B.Storage.capacity g.B.Storage.cleared g.B.Storage.pushed g.K.MathsHost.asked
+    promised_by g.S.Sink.acts g.B.Storage.acts g.K.MathsHost.acts
     (record { empties = b.empties; same_cleared = b.same_cleared; grows = b.grows; same_pushed = b.same_pushed })
-    c.args.budget (g.K.MathsHost.functions c.args.host.now) c.args.commands.now c.args.style c.args.dashes.now c.args.sink.now c.args.storage.now c.args.host.now
+    c.args.budget (g.K.MathsHost.acts.functions c.args.host.now) c.args.commands.now c.args.style c.args.dashes.now c.args.sink.now c.args.storage.now c.args.host.now
     g.met.S.Sink.grows c.admit_and_draw.ensures (g.met.K.MathsHost.narrow c.args.host.now)
+
+pub returns-clause-took : goal.returns-clause-took
+returns-clause-took g c =
+    took_by g.S.Sink.acts g.B.Storage.acts g.K.MathsHost.acts
+    c.args.budget (g.K.MathsHost.acts.functions c.args.host.now) c.args.commands.now c.args.style c.args.dashes.now c.args.sink.now c.args.storage.now c.args.host.now c.admit_and_draw.ensures
 
 pub returns-clause-lawful : goal.returns-clause-lawful
 returns-clause-lawful g c = let b = g.met.B.Storage in
-    law_of_call g.S.Sink.meaning g.S.Sink.took g.B.Storage.held g.B.Storage.capacity g.B.Storage.cleared g.B.Storage.pushed g.K.MathsHost.asked
-    c.args.budget (g.K.MathsHost.functions c.args.host.now) c.args.commands.now c.args.style c.args.dashes.now c.args.sink.now c.args.storage.now c.args.host.now
+    law_of_call g.S.Sink.acts g.B.Storage.acts g.K.MathsHost.acts
+    c.args.budget (g.K.MathsHost.acts.functions c.args.host.now) c.args.commands.now c.args.style c.args.dashes.now c.args.sink.now c.args.storage.now c.args.host.now
     g.met.S.Sink.kept g.met.S.Sink.grows (record { empties = b.empties; same_cleared = b.same_cleared; grows = b.grows; same_pushed = b.same_pushed }) (g.met.K.MathsHost.narrow c.args.host.now) c.admit_and_draw.ensures

@@ -7,9 +7,9 @@ use Rattle.stroke.proofs.collect.collect.Given as goal
 
 abbrev pub invariant-loop-segment : goal.invariant-loop-segment
 invariant-loop-segment g l =
-    let F = g.K.MathsHost.functions l.fn.host in
-    let all = gather g.B.Storage.held g.B.Storage.capacity g.B.Storage.pushed g.K.MathsHost.asked (g.B.Storage.cleared l.fn.storage) l.fn.host (still F (seen l.fn.cursor) (rest l.fn.cursor l.commands)) in
-    Gathers g.B.Storage.held g.B.Storage.capacity g.B.Storage.pushed g.K.MathsHost.asked F all (left (seen l.fn.cursor) (rest l.fn.cursor l.commands)) g.K.MathsHost.functions l.storage l.host (seen l.cursor) (rest l.cursor l.commands)
+    let F = g.K.MathsHost.acts.functions l.fn.host in
+    let all = gather g.B.Storage.acts g.K.MathsHost.acts (g.B.Storage.acts.cleared l.fn.storage) l.fn.host (still F (seen l.fn.cursor) (rest l.fn.cursor l.commands)) in
+    Gathers g.B.Storage.acts g.K.MathsHost.acts F all (left (seen l.fn.cursor) (rest l.fn.cursor l.commands)) l.storage l.host (seen l.cursor) (rest l.cursor l.commands)
 
 abbrev pub decreases-loop-segment : goal.decreases-loop-segment
 decreases-loop-segment g l = left (seen l.cursor) (rest l.cursor l.commands)

@@ -7,9 +7,9 @@ use Rattle.dashes.proofs.Ranges.{next_within}
 use Rattle.dashes.proofs.dasher.Dasher.next.Goals as goal
 
 pub returns-clause-within : goal.returns-clause-within
-returns-clause-within g c = rw c.next-next.ensures (next_within (values c.args.self.now.pattern) (g.B.Storage.held c.args.storage.now) c.args.self.now.walk)
+returns-clause-within g c = rw c.next-next.ensures (next_within (values c.args.self.now.pattern) (g.B.Storage.acts.held c.args.storage.now) c.args.self.now.walk)
 
 pub returns-clause-in_place : goal.returns-clause-in_place
 returns-clause-in_place g c = λ before.
     let p = values c.args.self.now.pattern in
-    subst (λ (x : Next). InPlace p x.after) (sym c.next-next.ensures) (next_in_place p (g.B.Storage.held c.args.storage.now) c.args.self.now.walk before)
+    subst (λ (x : Next). InPlace p x.after) (sym c.next-next.ensures) (next_in_place p (g.B.Storage.acts.held c.args.storage.now) c.args.self.now.walk before)

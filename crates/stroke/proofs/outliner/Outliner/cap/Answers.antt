@@ -8,14 +8,14 @@ use Rattle.stroke.proofs.outliner.Outliner.cap.Goals as goal
 pub send_all-requires : goal.send_all-requires
 send_all-requires g c =
     let n = c.args.self.now in
-    let F = g.K.MathsHost.functions n.host.now in
+    let F = g.K.MathsHost.acts.functions n.host.now in
     let t = c.args.turn in
     room_to_send (cap_questions F c.args.shape n.nib.radius t) (cap_commands F c.args.shape n.nib.radius t) n.sent _ (c.as_slice.ensures.value ∙ c.cap_commands-commands.ensures.answer) c.requires
 
 pub returns : goal.returns
 returns g c =
     let n = c.args.self.now in
-    let F = g.K.MathsHost.functions n.host.now in
+    let F = g.K.MathsHost.acts.functions n.host.now in
     let t = c.args.turn in
-    drew_both g.S.Sink.meaning g.S.Sink.took g.K.MathsHost.asked (cap_questions F c.args.shape n.nib.radius t) (cap_commands F c.args.shape n.nib.radius t) (ap (λ h. drawing n.sink.now h n.sent true) c.cap_commands-commands.ensures.host)
+    drew_both g.S.Sink.acts g.K.MathsHost.acts (cap_questions F c.args.shape n.nib.radius t) (cap_commands F c.args.shape n.nib.radius t) (ap (λ h. drawing n.sink.now h n.sent true) c.cap_commands-commands.ensures.host)
     (record { sink = refl; host = refl; nib = refl }) (c.as_slice.ensures.value ∙ c.cap_commands-commands.ensures.answer) c.send_all.ensures

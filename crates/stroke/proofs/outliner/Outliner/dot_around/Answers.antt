@@ -13,23 +13,23 @@ use Rattle.stroke.proofs.outliner.Outliner.dot_around.Goals as goal
 pub returns-in_err-spot : goal.returns-in_err-spot
 returns-in_err-spot g c =
     let n = c.args.self.now in
-    let F = g.K.MathsHost.functions n.host.now in
+    let F = g.K.MathsHost.acts.functions n.host.now in
     let o = c.args.o in
-    let drew = drew_by g.S.Sink.meaning g.S.Sink.took g.K.MathsHost.asked (ap (λ (q : Vector). spot F n.nib o.start q o.start_normal) c.across_from-across.ensures) c.in_err-spot.ensures in
-    ends_refused g.S.Sink.meaning g.S.Sink.took g.K.MathsHost.asked c.from_residual.result (spot F n.nib o.start (difference o.start (multiple o.start_normal (two ⊗ n.nib.radius))) o.start_normal) (sends Close ∷ []) c.from_residual.ensures.0 refl (starts g.S.Sink.meaning g.S.Sink.took g.K.MathsHost.asked n (dot_around F n.nib o) c.requires) drew
+    let drew = drew_by g.S.Sink.acts g.K.MathsHost.acts (ap (λ (q : Vector). spot F n.nib o.start q o.start_normal) c.across_from-across.ensures) c.in_err-spot.ensures in
+    ends_refused g.S.Sink.acts g.K.MathsHost.acts c.from_residual.result (spot F n.nib o.start (difference o.start (multiple o.start_normal (two ⊗ n.nib.radius))) o.start_normal) (sends Close ∷ []) c.from_residual.ensures.0 refl (starts g.S.Sink.acts g.K.MathsHost.acts n (dot_around F n.nib o) c.requires) drew
 
 pub send-requires : goal.send-requires
 send-requires g c =
     let n = c.args.self.now in
-    let F = g.K.MathsHost.functions n.host.now in
+    let F = g.K.MathsHost.acts.functions n.host.now in
     let o = c.args.o in
-    let drew = drew_by g.S.Sink.meaning g.S.Sink.took g.K.MathsHost.asked (ap (λ (q : Vector). spot F n.nib o.start q o.start_normal) c.across_from-across.ensures) c.in_ok-spot.ensures in
-    (goes_on g.S.Sink.meaning g.S.Sink.took g.K.MathsHost.asked (spot F n.nib o.start (difference o.start (multiple o.start_normal (two ⊗ n.nib.radius))) o.start_normal) (sends Close ∷ []) refl (starts g.S.Sink.meaning g.S.Sink.took g.K.MathsHost.asked n (dot_around F n.nib o) c.requires) drew).fits
+    let drew = drew_by g.S.Sink.acts g.K.MathsHost.acts (ap (λ (q : Vector). spot F n.nib o.start q o.start_normal) c.across_from-across.ensures) c.in_ok-spot.ensures in
+    (goes_on g.S.Sink.acts g.K.MathsHost.acts (spot F n.nib o.start (difference o.start (multiple o.start_normal (two ⊗ n.nib.radius))) o.start_normal) (sends Close ∷ []) refl (starts g.S.Sink.acts g.K.MathsHost.acts n (dot_around F n.nib o) c.requires) drew).fits
 
 pub returns : goal.returns
 returns g c =
     let n = c.args.self.now in
-    let F = g.K.MathsHost.functions n.host.now in
+    let F = g.K.MathsHost.acts.functions n.host.now in
     let o = c.args.o in
-    let drew = drew_by g.S.Sink.meaning g.S.Sink.took g.K.MathsHost.asked (ap (λ (q : Vector). spot F n.nib o.start q o.start_normal) c.across_from-across.ensures) c.in_ok-spot.ensures in
-    ends_with g.S.Sink.meaning g.S.Sink.took g.K.MathsHost.asked refl (goes_on g.S.Sink.meaning g.S.Sink.took g.K.MathsHost.asked (spot F n.nib o.start (difference o.start (multiple o.start_normal (two ⊗ n.nib.radius))) o.start_normal) (sends Close ∷ []) refl (starts g.S.Sink.meaning g.S.Sink.took g.K.MathsHost.asked n (dot_around F n.nib o) c.requires) drew) c.send.ensures
+    let drew = drew_by g.S.Sink.acts g.K.MathsHost.acts (ap (λ (q : Vector). spot F n.nib o.start q o.start_normal) c.across_from-across.ensures) c.in_ok-spot.ensures in
+    ends_with g.S.Sink.acts g.K.MathsHost.acts refl (goes_on g.S.Sink.acts g.K.MathsHost.acts (spot F n.nib o.start (difference o.start (multiple o.start_normal (two ⊗ n.nib.radius))) o.start_normal) (sends Close ∷ []) refl (starts g.S.Sink.acts g.K.MathsHost.acts n (dot_around F n.nib o) c.requires) drew) c.send.ensures

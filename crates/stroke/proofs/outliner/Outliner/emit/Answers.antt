@@ -6,4 +6,4 @@ use Rattle.stroke.proofs.Drawn.{drew_none}
 use Rattle.stroke.proofs.outliner.Outliner.emit.Goals as goal
 
 pub returns-in-End : goal.returns-in-End
-returns-in-End g c = drew_none g.S.Sink.meaning g.S.Sink.took g.K.MathsHost.asked c.args.self.now (ap (λ (x : Segment). map sends (emitted x)) c.in-End.is)
+returns-in-End g c = drew_none g.S.Sink.acts g.K.MathsHost.acts c.args.self.now (ap (λ (x : Segment). map sends (emitted x)) c.in-End.is)

@@ -12,14 +12,14 @@ returns-in_err-back g c = first_refused c.from_residual.result _ _ c.from_residu
 
 pub finish_open-requires : goal.finish_open-requires
 finish_open-requires g c =
-    let F = g.K.MathsHost.functions c.args.self.now.host.now in
+    let F = g.K.MathsHost.acts.functions c.args.self.now.host.now in
     let nib = c.args.self.now.nib in
     let is = ap (λ (e : OffsetSegment). backward F nib c.args.p (other_sides_on nib (g.R.Row.pieces c.args.row.now)) ++ finish_events F nib e c.args.o) (sym c.in_ok-back.ensures.last) in
-    rest_fits g.K.MathsHost.functions g.met.K.MathsHost.same _ (λ (G : Functions) (n : Nib). finish_events G n c.in_ok-back.back c.args.o) is c.requires c.in_ok-back.ensures.drew
+    rest_fits g.met.K.MathsHost.same _ (λ (G : Functions) (n : Nib). finish_events G n c.in_ok-back.back c.args.o) is c.requires c.in_ok-back.ensures.drew
 
 pub returns : goal.returns
 returns g c =
-    let F = g.K.MathsHost.functions c.args.self.now.host.now in
+    let F = g.K.MathsHost.acts.functions c.args.self.now.host.now in
     let nib = c.args.self.now.nib in
     let is = ap (λ (e : OffsetSegment). backward F nib c.args.p (other_sides_on nib (g.R.Row.pieces c.args.row.now)) ++ finish_events F nib e c.args.o) (sym c.in_ok-back.ensures.last) in
-    rest_drew g.K.MathsHost.functions g.met.K.MathsHost.same _ (λ (G : Functions) (n : Nib). finish_events G n c.in_ok-back.back c.args.o) is c.requires c.in_ok-back.ensures.drew c.finish_open.ensures
+    rest_drew g.met.K.MathsHost.same _ (λ (G : Functions) (n : Nib). finish_events G n c.in_ok-back.back c.args.o) is c.requires c.in_ok-back.ensures.drew c.finish_open.ensures

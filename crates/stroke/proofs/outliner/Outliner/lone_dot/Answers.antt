@@ -7,5 +7,5 @@ use Rattle.stroke.proofs.outliner.Outliner.lone_dot.Goals as goal
 
 pub returns-in-None : goal.returns-in-None
 returns-in-None g c =
-    let F = g.K.MathsHost.functions c.args.self.now.host.now in
-    drew_none g.S.Sink.meaning g.S.Sink.took g.K.MathsHost.asked c.args.self.now (ap (λ (xs : List Segment). lone_dot F c.args.self.now.nib xs) (none_first (g.R.Row.pieces c.args.row.now) (sym c.get.ensures ∙ c.in-None.is)))
+    let F = g.K.MathsHost.acts.functions c.args.self.now.host.now in
+    drew_none g.S.Sink.acts g.K.MathsHost.acts c.args.self.now (ap (λ (xs : List Segment). lone_dot F c.args.self.now.nib xs) (none_first (g.R.Row.pieces c.args.row.now) (sym c.get.ensures ∙ c.in-None.is)))

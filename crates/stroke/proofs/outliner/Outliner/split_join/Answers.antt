@@ -9,7 +9,7 @@ use Rattle.stroke.proofs.outliner.Outliner.split_join.Goals as goal
 pub send_all-requires : goal.send_all-requires
 send_all-requires g c =
     let n = c.args.self.now in
-    let F = g.K.MathsHost.functions n.host.now in
+    let F = g.K.MathsHost.acts.functions n.host.now in
     let t = c.turn_between-turn.result in
     room_to_send (shaped_questions F (split_corner t) n.nib t) (shaped F (split_corner t) n.nib t) n.sent _ (c.as_slice.ensures.value ∙ c.split_join-commands.ensures.answer)
     (same_fits (split_events F n.nib (turn_between c.args.o c.args.p)) n.sent _ (ap (split_events F n.nib) c.turn_between-turn.ensures) c.requires)
@@ -17,8 +17,8 @@ send_all-requires g c =
 pub returns : goal.returns
 returns g c =
     let n = c.args.self.now in
-    let F = g.K.MathsHost.functions n.host.now in
+    let F = g.K.MathsHost.acts.functions n.host.now in
     let t = c.turn_between-turn.result in
-    drew_by g.S.Sink.meaning g.S.Sink.took g.K.MathsHost.asked (ap (split_events F n.nib) c.turn_between-turn.ensures)
-    (drew_both g.S.Sink.meaning g.S.Sink.took g.K.MathsHost.asked (shaped_questions F (split_corner t) n.nib t) (shaped F (split_corner t) n.nib t) (ap (λ h. drawing n.sink.now h n.sent true) c.split_join-commands.ensures.host)
+    drew_by g.S.Sink.acts g.K.MathsHost.acts (ap (split_events F n.nib) c.turn_between-turn.ensures)
+    (drew_both g.S.Sink.acts g.K.MathsHost.acts (shaped_questions F (split_corner t) n.nib t) (shaped F (split_corner t) n.nib t) (ap (λ h. drawing n.sink.now h n.sent true) c.split_join-commands.ensures.host)
     (record { sink = refl; host = refl; nib = refl }) (c.as_slice.ensures.value ∙ c.split_join-commands.ensures.answer) c.send_all.ensures)

@@ -7,21 +7,21 @@ use Rattle.stroke.proofs.outliner.Outliner.stroke_closed.Goals as goal
 
 pub go_round_closed-requires : goal.go_round_closed-requires
 go_round_closed-requires g c =
-    let F = g.K.MathsHost.functions c.args.self.now.host.now in
+    let F = g.K.MathsHost.acts.functions c.args.self.now.host.now in
     let nib = c.args.self.now.nib in
     let xs = g.R.Row.pieces c.args.row.now in
     same_fits (around (closed_ring F nib) (sides nib xs) (other_sides nib xs)) c.args.self.now.sent _ (closed_ring_found F nib xs c.first_and_last.ensures c.in-Some.is c.side-e.ensures c.other_side-b.ensures c.other_side.ensures) c.requires
 
 pub returns-in-None : goal.returns-in-None
 returns-in-None g c =
-    let F = g.K.MathsHost.functions c.args.self.now.host.now in
+    let F = g.K.MathsHost.acts.functions c.args.self.now.host.now in
     let nib = c.args.self.now.nib in
     let xs = g.R.Row.pieces c.args.row.now in
-    drew_none g.S.Sink.meaning g.S.Sink.took g.K.MathsHost.asked c.args.self.now (around_none (closed_ring F nib) nib xs (sym c.first_and_last.ensures ∙ c.in-None.is))
+    drew_none g.S.Sink.acts g.K.MathsHost.acts c.args.self.now (around_none (closed_ring F nib) nib xs (sym c.first_and_last.ensures ∙ c.in-None.is))
 
 pub returns-in-Some : goal.returns-in-Some
 returns-in-Some g c =
-    let F = g.K.MathsHost.functions c.args.self.now.host.now in
+    let F = g.K.MathsHost.acts.functions c.args.self.now.host.now in
     let nib = c.args.self.now.nib in
     let xs = g.R.Row.pieces c.args.row.now in
-    drew_by g.S.Sink.meaning g.S.Sink.took g.K.MathsHost.asked (closed_ring_found F nib xs c.first_and_last.ensures c.in-Some.is c.side-e.ensures c.other_side-b.ensures c.other_side.ensures) c.go_round_closed.ensures
+    drew_by g.S.Sink.acts g.K.MathsHost.acts (closed_ring_found F nib xs c.first_and_last.ensures c.in-Some.is c.side-e.ensures c.other_side-b.ensures c.other_side.ensures) c.go_round_closed.ensures

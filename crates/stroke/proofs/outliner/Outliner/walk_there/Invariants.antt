@@ -7,9 +7,9 @@ use Rattle.stroke.proofs.outliner.Outliner.walk_there.Given as goal
 -- what is left to draw, from here, ends as all of it does from the start
 abbrev pub invariant-loop-i : goal.invariant-loop-i
 invariant-loop-i g l =
-    let functions = g.K.MathsHost.functions in
+    let hosts = g.K.MathsHost.acts in
     let row = g.R.Row.pieces l.row in
     let all = map (side l.fn.self.nib) (drop l.start row) in
     let left = map (side l.self.nib) (drop l.i row) in
     (last_side l.last left ≡ last_side l.fn.before all)
-    × Leads g.S.Sink.meaning g.S.Sink.took g.K.MathsHost.asked l.fn.self (there l.split (functions l.fn.self.host.now) l.fn.self.nib l.fn.before all) l.self (there l.split (functions l.self.host.now) l.self.nib l.last left)
+    × Leads g.S.Sink.acts g.K.MathsHost.acts l.fn.self (there l.split (hosts.functions l.fn.self.host.now) l.fn.self.nib l.fn.before all) l.self (there l.split (hosts.functions l.self.host.now) l.self.nib l.last left)

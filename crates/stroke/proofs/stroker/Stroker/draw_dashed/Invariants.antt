@@ -9,10 +9,10 @@ use Rattle.stroke.proofs.stroker.Stroker.draw_dashed.Given as goal
 -- while the offset is sought
 abbrev pub invariant-loop-self : goal.invariant-loop-self
 invariant-loop-self g l =
-    let functions = g.K.MathsHost.functions in
-    let xs = g.B.Storage.held l.fn.self.storage.now in
-    let all = run_actions (functions l.fn.self.host.now) l.fn.self.nib (Some (values l.pattern)) l.closed xs in
-    Along g.S.Sink.meaning g.S.Sink.took g.B.Storage.held g.B.Storage.capacity g.B.Storage.cleared g.B.Storage.pushed g.K.MathsHost.asked functions l.fn.self all l.self (λ n. dash_walk n l.dasher xs)
+    let hosts = g.K.MathsHost.acts in
+    let xs = g.B.Storage.acts.held l.fn.self.storage.now in
+    let all = run_actions (hosts.functions l.fn.self.host.now) l.fn.self.nib (Some (values l.pattern)) l.closed xs in
+    Along g.S.Sink.acts g.B.Storage.acts g.K.MathsHost.acts l.fn.self all l.self (λ n. dash_walk n l.dasher xs)
 
 abbrev pub decreases-loop-self : goal.decreases-loop-self
 decreases-loop-self g l = l.self.steps.budget - l.self.steps.taken
@@ -20,10 +20,10 @@ decreases-loop-self g l = l.self.steps.budget - l.self.steps.taken
 -- and then
 abbrev pub invariant-loop-dasher : goal.invariant-loop-dasher
 invariant-loop-dasher g l =
-    let functions = g.K.MathsHost.functions in
-    let xs = g.B.Storage.held l.fn.self.storage.now in
-    let all = run_actions (functions l.fn.self.host.now) l.fn.self.nib (Some (values l.pattern)) l.closed xs in
-    Along g.S.Sink.meaning g.S.Sink.took g.B.Storage.held g.B.Storage.capacity g.B.Storage.cleared g.B.Storage.pushed g.K.MathsHost.asked functions l.fn.self all l.self (λ n. walking n (values l.dasher.pattern) xs Continue l.dasher.walk)
+    let hosts = g.K.MathsHost.acts in
+    let xs = g.B.Storage.acts.held l.fn.self.storage.now in
+    let all = run_actions (hosts.functions l.fn.self.host.now) l.fn.self.nib (Some (values l.pattern)) l.closed xs in
+    Along g.S.Sink.acts g.B.Storage.acts g.K.MathsHost.acts l.fn.self all l.self (λ n. walking n (values l.dasher.pattern) xs Continue l.dasher.walk)
 
 abbrev pub decreases-loop-dasher : goal.decreases-loop-dasher
 decreases-loop-dasher g l = l.self.steps.budget - l.self.steps.taken

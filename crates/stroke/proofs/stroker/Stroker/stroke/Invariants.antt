@@ -10,10 +10,10 @@ use Rattle.stroke.proofs.stroker.Stroker.stroke.Given as goal
 -- what is left to do, from here, ends as all of it does from the start
 abbrev pub invariant-loop-closed : goal.invariant-loop-closed
 invariant-loop-closed g l =
-    let F = g.K.MathsHost.functions l.fn.self.host.now in
+    let F = g.K.MathsHost.acts.functions l.fn.self.host.now in
     let nib = l.fn.self.nib in
     let pattern = option_map values l.pattern in
-    Leads g.S.Sink.meaning g.S.Sink.took g.B.Storage.held g.B.Storage.capacity g.B.Storage.cleared g.B.Storage.pushed g.K.MathsHost.asked l.fn.self (clears ∷ run_by_run F nib pattern [] (drawn_whole F true l.commands))
+    Leads g.S.Sink.acts g.B.Storage.acts g.K.MathsHost.acts l.fn.self (clears ∷ run_by_run F nib pattern [] (drawn_whole F true l.commands))
     l.self (clears ∷ run_by_run F nib pattern [] (still F (seen l.cursor) (rest l.cursor l.commands)))
 
 abbrev pub decreases-loop-closed : goal.decreases-loop-closed

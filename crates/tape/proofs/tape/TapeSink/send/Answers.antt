@@ -2,7 +2,7 @@ use Rattle.std.proofs.Common.{◌∙◌, ap, subst, IfSome}
 use Rattle.codec.specs.declared.item.Item.TheVariants.{Path}
 use Rattle.codec.specs.Spelling.{Fitting}
 use Rattle.sinks.specs.Meaning.{after}
-use Rattle.tape.specs.Tapes.{spelling, grown}
+use Rattle.tape.specs.Tapes.{tape_acts}
 use Rattle.tape.proofs.Taking.{taken, after_taken}
 use Rattle.tape.proofs.tape.TapeSink.send.Goals as goal
 
@@ -15,4 +15,4 @@ pub returns-clause-after : goal.returns-clause-after
 returns-clause-after c =
     let fitting : Fitting (Path c.args.c) = subst (λ o. IfSome o (λ n. Fitting (Path c.args.c))) c.in_ok-size.ensures.ok_part c.write_command.ensures.fitting in
     let t = taken c.self.inside.bytes.now c.self.inside.count c.args.c c.in_ok-size.size c.in_ok-size.ensures.ok_part c.write_command.ensures.answer c.write_command.ensures.after c.self.invariant fitting in
-    after_taken c.self.inside.bytes c.self.inside.count c.args.c c.in_ok-size.size c.self.invariant t ∙ ap (λ w. after spelling grown w c.args.c) c.self.view_is
+    after_taken c.self.inside.bytes c.self.inside.count c.args.c c.in_ok-size.size c.self.invariant t ∙ ap (λ w. after tape_acts w c.args.c) c.self.view_is

@@ -4,4 +4,4 @@ use Rattle.dashes.proofs.dasher.walk.Walk.walk.Goals as goal
 
 pub answer-requires-clause-end : goal.answer-requires-clause-end
 answer-requires-clause-end g c =
-    rw (c.len.ensures, c.span-span.ensures) (span_ends (values c.args.pattern) (g.B.Storage.held c.args.storage.now) c.args.self c.args.reach c.choose_course-course.result c.requires.start c.requires.end)
+    rw (c.len.ensures, c.span-span.ensures) (span_ends (values c.args.pattern) (g.B.Storage.acts.held c.args.storage.now) c.args.self c.args.reach c.choose_course-course.result c.requires.start c.requires.end)
