@@ -10,11 +10,9 @@ mod Lawfully
 mod Lengths
 mod Offsets
 mod Performing
-mod Playing
 mod Ranging
 mod Rows
 pub mod Seen
 mod Stretches
 mod Traces
-mod Two
 mod Walking

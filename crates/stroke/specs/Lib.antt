@@ -7,6 +7,5 @@ pub mod Outliners
 pub mod Outcomes
 pub mod Outlines
 pub mod Ranges
-pub mod Rings
 pub mod Runs
 pub mod Strokers
