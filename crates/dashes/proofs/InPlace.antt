@@ -14,7 +14,7 @@ use Rattle.dashes.specs.Patterns.{Dashes, Taken, joined_over, following, length_
 
 -- ---- the next place
 
-flips : (xs : List Float) (i : ℕ) → length xs % 2 ≡ 0 → following xs i % 2 ≡ (i + 1) % 2
+pub flips : (xs : List Float) (i : ℕ) → length xs % 2 ≡ 0 → following xs i % 2 ≡ (i + 1) % 2
 flips xs i even =
     let n = length xs in
     let outer : (i % n + 1) % n % 2 ≡ (i % n + 1) % 2 = mod-mod_of_dvd 2 (i % n + 1) (dvd_of_mod-eq-zero 2 even) in
