@@ -1,12 +1,12 @@
 -- A dash that was taken at its place is joined over every gap of 0.
 use Rattle.std.proofs.Common.{◌≡◌, ℕ, zero as zeroⁿ, suc, ◌+◌, ◌%◌, ◌<◌, ◌≤◌, Bool, true, false, not, ◌&&◌, ◌||◌, List, [], ◌∷◌, length, slice_index_or, refl, sym, ◌∙◌, arith, true≢false, mod-lt, mod-eq_of_lt, Float}
-use Rattle.std.proofs.lemmas.Bool.{eqb-false}
+use Rattle.std.proofs.lemmas.Bool.{cond_both, eqb-false}
 use Rattle.std.specs.Float.{nan}
 use Rattle.std.specs.Float.Ieee.{eq}
 use Rattle.numbers.specs.Arithmetic.{◌⊕◌, zero}
-use Rattle.dashes.specs.Patterns.{joined_over, following, length_at, empty_after, is_empty_gap, empty_gap, odd_number, room_between, IsDashPlace, IsWhole}
+use Rattle.dashes.specs.Patterns.{Dashes, joined_over, following, length_at, empty_after, is_empty_gap, empty_gap, odd_number, room_between, IsDashPlace, IsWhole}
 use Rattle.dashes.proofs.Enough.{jumps, turns}
-use Rattle.dashes.proofs.InPlace.{flips}
+use Rattle.dashes.proofs.InPlace.{flips, AllWhole}
 use Rattle.dashes.proofs.Joining.{one_more, stops}
 
 -- ---- joined as far as such gaps go
@@ -69,3 +69,11 @@ single_whole xs i none place =
     let even = even_number xs e in
     let here : i % 2 ≡ 0 = place.1 even in
     (odd_gap j).0 (flips xs i even ∙ (let r : (i + 1) % 2 ≡ 1 = omega arith in r))))
+
+-- every dash of a pattern
+pub all_whole : (p : Dashes) → room_between p.lengths ≡ true → p.empty_gaps ≡ empty_gap (odd_number p.lengths) false p.lengths → AllWhole p
+all_whole p room told i place =
+    let xs = p.lengths in
+    cond_both p.empty_gaps (joined_over (length xs) (empty_after xs i) xs i (length_at xs i)) (record { len = length_at xs i; next = following xs i }) (IsWhole xs)
+    (λ is. joined_whole xs i (length_at xs i) room place)
+    (λ is. single_whole xs i (sym told ∙ is) place)
