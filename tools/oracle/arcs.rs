@@ -2,7 +2,9 @@
 //!
 //! arcs make SEED COUNT DIR         writes DIR/stdin (arcs) and DIR/stdout (their curves)
 //! arcs check SEED COUNT PROGRAM    compares the curves that PROGRAM prints with zeno's
+//! arcs make-alone, check-alone     the same of ordinary arcs that are drawn by themselves
 use common::arc::Arc;
+use common::centred::Centred;
 use common::generator::Generator;
 use common::host::{logged, row_bytes, Host};
 use common::program::{self, Case, Way};
@@ -17,6 +19,8 @@ fn main() -> ExitCode {
     let ways = [
         ("make", Way::Make(case)),
         ("check", Way::Check(case, program::CHUNK)),
+        ("make-alone", Way::Make(alone)),
+        ("check-alone", Way::Check(alone, program::CHUNK)),
     ];
     program::main("arcs", &ways)
 }
@@ -25,21 +29,79 @@ fn case(seed: u64, number: u64) -> Case {
     let mut generator = Generator::new(seed, number);
     let host = Host::any(&mut generator);
     let (kind, given) = any_arc(&mut generator);
-    let title = format!(
-        "arc {number} of seed {seed}: {kind}, host {host:?}, {}",
-        given.words()
-    );
+    let title = format!("arc {number} of seed {seed}: {kind}, host {host:?}");
+    drawn(&title, host, given, false).0
+}
+
+/// An ordinary arc with std's maths, which an arc by itself draws as zeno does: one whose start is sharp and
+/// that zeno's last curve ends well within the nearness that is asked of it there.
+fn alone(seed: u64, number: u64) -> Case {
+    let mut generator = Generator::new(seed, number);
+    loop {
+        let given = ordinary(&mut generator);
+        let title = format!("arc {number} of seed {seed} by itself");
+        let (case, end) = drawn(&title, Host::Std, given, true);
+        if starts_well(given) && ends_well(given, end) {
+            return case;
+        }
+    }
+}
+
+/// The start is an arc cosine's, which is blurred where the arc begins near the first axis; and far from 0 the
+/// steps between floats show.
+fn starts_well(given: Arc) -> bool {
+    let chord = (given.from[0] - given.to[0]).hypot(given.from[1] - given.to[1]);
+    let far = (given.from.iter().chain(&given.to)).fold(0f32, |far, x| far.max(x.abs()));
+    far <= 1000.0 * chord
+        && Centred::new(given).is_some_and(|centred| {
+            let blur = (1e-6 / centred.start.sin().abs()).min(1e-3);
+            blur * centred.radius() < f64::from(chord) / 2048.0
+        })
+}
+
+/// Within 1/1024 of half the chord in x and in y; an arc by itself asks for 1/256.
+fn ends_well(given: Arc, end: Option<Point>) -> bool {
+    let [half_x, half_y] = [0, 1].map(|i| (given.from[i] / 2.0 - given.to[i] / 2.0).abs());
+    let near = half_x.max(half_y) / 1024.0;
+    end.is_some_and(|end| {
+        (end.x - given.to[0]).abs() <= near && (end.y - given.to[1]).abs() <= near
+    })
+}
+
+/// The case of an arc, and where zeno's curves end.
+fn drawn(title: &str, host: Host, given: Arc, alone: bool) -> (Case, Option<Point>) {
+    let title = format!("{title}, {}", given.words());
     let (curves, rows) = logged(host, &title, || zeno_curves(given));
-    let mut input = vec![b'A', 0];
+    let mut input = vec![b'A', u8::from(alone)];
     input.extend(given.bytes());
     input.extend(row_bytes(&rows));
     let lines: Vec<String> = curves.iter().map(line).collect();
-    Case {
+    let end = match curves.last() {
+        Some(Command::CurveTo(_, _, end)) => Some(*end),
+        _ => None,
+    };
+    let case = Case {
         title,
         input,
         output: format!("{}= {}\n", lines.concat(), lines.len()),
         nan_cosine: false,
         counts: Vec::new(),
+    };
+    (case, end)
+}
+
+/// The larger radius from half the chord to a hundred times the chord.
+fn ordinary(generator: &mut Generator) -> Arc {
+    let (from, chord) = (point(generator), radius(generator));
+    let (sine, cosine) = generator.within(PI).sin_cos();
+    let to = [from[0] + chord * cosine, from[1] + chord * sine];
+    let rx = chord * 0.5 * (generator.unit() * 5.3).exp();
+    let narrow = generator.pick(&[1.0, 1.0, 0.99, 0.7, 0.3]);
+    Arc {
+        rx: signed(generator, rx),
+        ry: signed(generator, rx * narrow),
+        angle: angle(generator),
+        ..circle(from, rx, to)
     }
 }
 

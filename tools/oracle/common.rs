@@ -1,6 +1,7 @@
 //! What the programs share.
 pub mod arc;
 pub mod centred;
+pub mod chorded;
 pub mod generator;
 pub mod host;
 pub mod job;

@@ -3,7 +3,7 @@
 //! notes make SEED COUNT DIR            writes DIR/stdin
 //! notes measure SEED COUNT PROGRAM     prints what PROGRAM says of them, with the arcs that it names
 use common::arc::Arc;
-use common::centred::Centred;
+use common::chorded::{distance, Chorded};
 use common::generator::Generator;
 use common::program::{numbers, run};
 use std::f64::consts::{FRAC_PI_2, PI, TAU};
@@ -12,11 +12,11 @@ use std::io;
 use std::path::Path;
 use std::process::ExitCode;
 
-/// How near a multiple of a quarter an arc may have one curve more or less.
+/// How far past a multiple of a quarter an arc may turn without one curve more.
 const NEAR: f64 = 1.0 / 256.0;
 
-/// How many larger radii an end may lie from 0.
-const FARTHEST: f64 = 10_000.0;
+/// The parts of an arc, in 24ths of its turn, at which one to four equal curves have their middles and ends.
+const PARTS: [u8; 11] = [3, 4, 6, 8, 9, 12, 15, 16, 18, 20, 21];
 
 fn main() -> ExitCode {
     let arguments: Vec<String> = std::env::args().skip(1).collect();
@@ -82,75 +82,59 @@ fn noted(seed: u64, count: usize) -> Vec<Noted> {
 struct Noted {
     kind: u8,
     arc: Arc,
-    centred: Centred,
+    chorded: Option<Chorded>,
 }
 
 impl Noted {
-    /// None where the ends are one point, where a place is too large for an f32, or where the ends
-    /// are so far from 0 that the steps between numbers there show beside the radius.
+    /// None where the ends are one point or a radius is 0. Without places where one of them is too large for an f32.
     fn new(kind: u8, arc: Arc) -> Option<Noted> {
-        let centred = Centred::new(arc)?;
-        let noted = Noted { kind, arc, centred };
-        let fits = |x: f64| (x as f32).is_finite();
-        let all = noted.places(4).into_iter().flatten().all(fits);
-        let near = |x: f32| f64::from(x).abs() <= FARTHEST * centred.radius();
-        let near = [arc.from, arc.to].into_iter().flatten().all(near);
-        (all && near && fits(centred.radius())).then_some(noted)
+        let numbers = [arc.from, arc.to, [arc.rx, arc.ry]];
+        let fits = |x: &f64| (*x as f32).abs() <= f32::MAX / 2.0;
+        let chorded = Chorded::new(arc).filter(|c| places(c).iter().flatten().all(fits));
+        if let Some(chorded) = chorded {
+            chorded.assert_like_notes(arc);
+        }
+        let drawn = arc.from != arc.to && arc.rx != 0.0 && arc.ry != 0.0;
+        let finite = numbers.iter().flatten().all(|x| x.is_finite());
+        (drawn && finite).then_some(Noted { kind, arc, chorded })
     }
 
-    /// Where the middle and the end of each of so many curves lie.
-    fn places(&self, count: u8) -> Vec<[f64; 2]> {
-        let Centred { start, sweep, .. } = self.centred;
-        let angle = |half: u8| start + sweep * f64::from(half) / f64::from(2 * count);
-        (1..=2 * count)
-            .map(|half| self.centred.place(angle(half)))
-            .collect()
-    }
-
-    /// A curve for each quarter begun; and the other number of them that will do.
-    fn counts(&self) -> (u8, Option<u8>) {
-        let quarters = self.centred.sweep.abs() / FRAC_PI_2;
-        let count = quarters.ceil().clamp(1.0, 4.0) as u8;
-        let whole = quarters.round();
-        let near = (quarters - whole).abs() * FRAC_PI_2 < NEAR && (1.0..=3.0).contains(&whole);
-        let whole = whole as u8;
-        let other = if count == whole { whole + 1 } else { whole };
-        (count, near.then_some(other))
-    }
-
-    fn place_bytes(&self, count: u8) -> Vec<u8> {
-        let mut bytes = vec![count];
-        for x in self.places(count).into_iter().flatten() {
-            bytes.extend((x as f32).to_bits().to_be_bytes());
+    fn bytes(&self) -> Vec<u8> {
+        let mut bytes = vec![b'B', self.kind];
+        bytes.extend(self.arc.bytes());
+        bytes.push(u8::from(self.chorded.is_some()));
+        if let Some(chorded) = self.chorded {
+            let places = places(&chorded);
+            bytes.push(fewest(&chorded));
+            bytes.extend((size(self.arc, &places) as f32).to_bits().to_be_bytes());
+            bytes.extend(places.iter().flatten().flat_map(|x| x.to_be_bytes()));
         }
         bytes
     }
 
-    fn bytes(&self) -> Vec<u8> {
-        let (count, other) = self.counts();
-        let mut bytes = vec![b'B', self.kind];
-        bytes.extend(self.arc.bytes());
-        bytes.extend((self.centred.radius() as f32).to_bits().to_be_bytes());
-        bytes.extend(self.place_bytes(count));
-        bytes.push(u8::from(other.is_some()));
-        bytes.extend(other.map_or(Vec::new(), |other| self.place_bytes(other)));
-        bytes
-    }
-
     fn words(&self) -> String {
-        let Centred {
-            centre: [x, y],
-            rx,
-            ry,
-            start,
-            sweep,
-            ..
-        } = self.centred;
-        format!(
-            "{}; centre {x:e} {y:e} radii {rx:e} {ry:e} start {start:e} sweep {sweep:e}",
-            self.arc.words()
-        )
+        format!("{}; {:?}", self.arc.words(), self.chorded)
     }
+}
+
+fn places(chorded: &Chorded) -> Vec<[f64; 2]> {
+    (PARTS.iter())
+        .map(|part| chorded.place(f64::from(*part) / 24.0))
+        .collect()
+}
+
+/// A curve for each quarter begun.
+fn fewest(chorded: &Chorded) -> u8 {
+    let quarters = (2.0 * chorded.half - NEAR) / FRAC_PI_2;
+    quarters.ceil().clamp(1.0, 4.0) as u8
+}
+
+/// How far the arc goes from its start, at its end or at one of the places.
+fn size(arc: Arc, places: &[[f64; 2]]) -> f64 {
+    let [from, to] = [arc.from, arc.to].map(|end| end.map(f64::from));
+    (places.iter()).fold(distance(from, to), |size, place| {
+        size.max(distance(from, *place))
+    })
 }
 
 /// What an arc is made from.
@@ -172,6 +156,16 @@ struct Plan {
 
 type Planner = fn(&mut Generator) -> Plan;
 
+/// Where nothing is planned.
+const NO_PLAN: Plan = Plan {
+    size: 0.0,
+    narrow: 0.0,
+    away: 0.0,
+    between: 0.0,
+    shrunk: 0.0,
+    at_zero: false,
+};
+
 /// Weights, names and plans. The kinds are numbered from 0.
 const KINDS: &[(u32, &str, Planner)] = &[
     (17, "any angle", ordinary),
@@ -183,16 +177,21 @@ const KINDS: &[(u32, &str, Planner)] = &[
     (5, "flat ellipses", flat),
     (5, "far from 0", far),
     (10, "several of these", several),
+    (5, "far from 0, by 1e4 to 1e7 radii", farther),
     (1, "radii below 1e-12", tinier),
     (1, "radii above 5e9", huger),
     (1, "ellipses flatter than 1/1000", flatter),
     (1, "radii too small by more than 1e12", too_small_by_far),
     (1, "ends closer than 1e-6 of the radius", closer),
+    (1, "any bits of finite numbers", |_| NO_PLAN),
 ];
+
+/// The kind whose numbers are any.
+const ANY_BITS: usize = KINDS.len() - 1;
 
 /// The first arcs of a seed, from, radii and to, each with every flag: a quarter, half a turn, ends
 /// close to each other beside a radius of 1 and of 5e9, radii of 1e-12, radii that have to grow a
-/// little, much and too much, and ends whose difference is too large.
+/// little, much and too much, ends whose difference is too large, and radii beside which the chord is short.
 const PLANNED: &[[[f32; 2]; 3]] = &[
     [[1.0, 0.0], [1.0, 1.0], [0.0, 1.0]],
     [[1.0, 0.0], [1.0, 1.0], [-1.0, 0.0]],
@@ -203,6 +202,11 @@ const PLANNED: &[[[f32; 2]; 3]] = &[
     [[-1.0, 0.0], [1e-12, 1e-12], [1.0, 0.0]],
     [[-1.0, 0.0], [1e-20, 1e-20], [1.0, 0.0]],
     [[3e38, 0.0], [5.0, 5.0], [-3e38, 0.0]],
+    [[0.0, 0.0], [4000.0, 4000.0], [1.0, 0.0]],
+    [[10.0, 10.0], [100.0, 100.0], [10.02, 10.0]],
+    [[0.0, 0.0], [5e9, 5e9], [1.0, 0.0]],
+    [[0.0, 0.0], [100.0, 100.0], [0.02, 0.0]],
+    [[0.0, 0.0], [100.0, 100.0], [1e-6, 1e-6]],
 ];
 
 /// The number of their kind.
@@ -229,7 +233,26 @@ fn numbered_arc(seed: u64, number: u64) -> Option<Noted> {
 fn any_arc(generator: &mut Generator) -> Option<Noted> {
     let number = generator.by_weight(KINDS);
     let plan = KINDS[number].2(generator);
-    Noted::new(number as u8, drawn(generator, plan))
+    let arc = match number {
+        ANY_BITS => any_bits(generator),
+        _ => drawn(generator, plan),
+    };
+    Noted::new(number as u8, arc)
+}
+
+fn any_bits(generator: &mut Generator) -> Arc {
+    let mut any = || f32::from_bits(generator.below(1 << 16) << 16 | generator.below(1 << 16));
+    let [from, to] = [[any(), any()], [any(), any()]];
+    let (rx, ry, angle, flags) = (any(), any(), any(), any().to_bits());
+    Arc {
+        from,
+        rx,
+        ry,
+        angle,
+        to,
+        large: flags & 1 == 1,
+        positive: flags & 2 == 2,
+    }
 }
 
 fn between(generator: &mut Generator, low: f64, high: f64) -> f64 {
@@ -298,6 +321,13 @@ fn scaled(generator: &mut Generator) -> Plan {
 fn flat(generator: &mut Generator) -> Plan {
     Plan {
         narrow: ten_to(generator, -3.0, -1.0),
+        ..ordinary(generator)
+    }
+}
+
+fn farther(generator: &mut Generator) -> Plan {
+    Plan {
+        away: ten_to(generator, 4.0, 7.0),
         ..ordinary(generator)
     }
 }

@@ -1,5 +1,6 @@
 -- Commands that are sent, one at a time.
-use Rattle.std.proofs.Common.{◌≡◌, ℕ, ◌+◌, ◌<◌, ◌≤◌, Bool, true, false, cond, not, List, [], ◌∷◌, length, get_or, drop, take, map, ◌++◌, suc, T, append-nil, append_assoc, Ok, Err, Result, is_err, sym, refl, ap, ◌∙◌, subst, add-one, drop_of_length-le, drop-cons, arith, true≢false}
+use Rattle.std.proofs.Common.{◌≡◌, ℕ, ◌+◌, ◌<◌, ◌≤◌, Bool, true, false, cond, not, List, [], ◌∷◌, length, get_or, drop, take, map, ◌++◌, suc, T, append-nil, append_assoc, Ok, Err, Result, is_err, sym, refl, ap, ◌∙◌, subst, add-one, drop_of_length-le, drop-cons, arith, true≢false, zero, ◌&&◌}
+use lib.Ieee.Fits.{and_l, and_r}
 use Rattle.std.proofs.lemmas.Bool.{cond-true, cond-false, cond_both}
 use Rattle.std.proofs.lemmas.Float.{T_from_true}
 use Rattle.path.specs.declared.command.Command.{Command}
@@ -8,7 +9,11 @@ use Rattle.sinks.specs.Meaning.{Meaning, SinkActs, takes, verdict, after, joined
 use Rattle.arcs.specs.Curves.{OneToFour}
 use Rattle.path.specs.declared.refusal.Refusal.{Refusal}
 use Rattle.path.specs.declared.refusal.Reason.TheVariants.{SinkRefused, ZeroRadius}
-use Rattle.arc.specs.Arcs.{Sending, sending, refused, sent_answer, taken, Few, Joined}
+use Rattle.std.proofs.Math.Seq.{take-length}
+use Rattle.arcs.specs.declared.arc_to.ArcTo.{ArcTo}
+use Rattle.arcs.specs.Ends.{command_finite, all_finite}
+use Rattle.arcs.specs.Laws.{ReachesEnd, FiniteIfEnds}
+use Rattle.arc.specs.Arcs.{Sending, sending, refused, sent_answer, taken, Few, Joined, ReachesIfDrawn, SentFinite}
 
 -- a verdict is a refusal where the sink does not take the command
 taken_unless : (b : Bool) (x : Refused) {r : Result (Unit {0}) Refused} {e : Bool} → r ≡ cond b (Ok tt) (Err x) → is_err r ≡ e → b ≡ not e
@@ -95,3 +100,34 @@ joined_sent sinks grows cs s {row = row} {r = r} {now = now} is same there =
 
 pub joined_none : (m : Meaning) (row : List Command) {r : Result ℕ Refusal} → r ≡ Err (refused ZeroRadius 0) → Joined m r row m
 joined_none m row is = sym (append-nil m.list) ∙ ap (λ k. m.list ++ map m.map (take k row)) (sym (ap taken is))
+
+-- all curves of an accepted arc are sent
+reaches_of : {S : Type 0} (sinks : SinkActs S) (a : ArcTo) (cs : List Command) (s : S) → ReachesEnd a cs → ReachesIfDrawn a (sent_answer (sending sinks cs s 0)) cs
+reaches_of sinks a cs s h =
+    let d = sending sinks cs s 0 in
+    cond_both d.going (Ok d.sent) (Err (refused SinkRefused d.sent)) (λ r. ReachesIfDrawn a r cs)
+    (λ e. let all : d.sent ≡ length cs = omega (arith, (sent_all sinks cs s 0).0 e) in subst (ReachesEnd a) (sym (ap (λ n. take n cs) all ∙ take-length cs)) h)
+    (λ _. tt)
+
+pub reaches_sent : {S : Type 0} (sinks : SinkActs S) (a : ArcTo) (cs : List Command) (s : S) {row : List Command} {r : Result ℕ Refusal} → r ≡ sent_answer (sending sinks cs s 0) → cs ≡ row → ReachesEnd a row → ReachesIfDrawn a r row
+reaches_sent sinks a cs s {row = row} {r = r} is same h = subst (λ q. ReachesIfDrawn a q row) (sym is) (subst (λ l. ReachesIfDrawn a (sent_answer (sending sinks cs s 0)) l) same (reaches_of sinks a cs s (subst (ReachesEnd a) (sym same) h)))
+
+-- and what is sent of finite curves is finite
+and_both : (x y : Bool) → T x → T y → T (x && y)
+and_both true true h k = tt
+and_both true false h k = absurd k
+and_both false y h k = absurd h
+
+pub finite_sent : (a : ArcTo) (row : List Command) (r : Result ℕ Refusal) → FiniteIfEnds a row → SentFinite a r row
+finite_sent a row r h ends = first_finite row (taken r) (h ends)
+  where
+    first_finite : (row : List Command) (n : ℕ) → T (all_finite row) → T (all_finite (take n row))
+    first_finite row zero h = tt
+    first_finite [] (suc n) h = tt
+    first_finite (c ∷ cs) (suc n) h = and_both (command_finite c) (all_finite (take n cs)) (and_l (command_finite c) (all_finite cs) h) (first_finite cs n (and_r (command_finite c) (all_finite cs) h))
+
+pub finite_none : (a : ArcTo) (row : List Command) {r : Result ℕ Refusal} → r ≡ Err (refused ZeroRadius 0) → SentFinite a r row
+finite_none a row is = subst (λ r. SentFinite a r row) (sym is) (λ _. tt)
+
+pub reaches_none : (a : ArcTo) (row : List Command) {r : Result ℕ Refusal} → r ≡ Err (refused ZeroRadius 0) → ReachesIfDrawn a r row
+reaches_none a row is = subst (λ r. ReachesIfDrawn a r row) (sym is) tt

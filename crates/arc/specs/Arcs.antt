@@ -1,5 +1,5 @@
 -- An arc by itself: its curves, sent one after the other.
-use Rattle.std.specs.Prelude.{◌≡◌, ℕ, ◌+◌, ◌≤◌, Bool, true, false, cond, ◌||◌, List, [], ◌∷◌, ◌++◌, map, take, Ok, Err, Result}
+use Rattle.std.specs.Prelude.{◌≡◌, ℕ, ◌+◌, ◌≤◌, Bool, true, false, cond, ◌||◌, List, [], ◌∷◌, ◌++◌, map, take, Ok, Err, Result, IfOk}
 use Rattle.std.specs.Float.Ieee.{eq}
 use Rattle.numbers.specs.Arithmetic.{zero}
 use Rattle.maths.specs.Functions.{Functions, HostActs}
@@ -9,7 +9,9 @@ use Rattle.path.specs.declared.refusal.Reason.{Reason}
 use Rattle.path.specs.declared.refusal.Reason.TheVariants.{SinkRefused, ZeroRadius}
 use Rattle.path.specs.declared.refusal.Refusal.{Refusal}
 use Rattle.arcs.specs.declared.arc_to.ArcTo.{ArcTo}
-use Rattle.arcs.specs.Curves.{arc_curves, arc_questions}
+use Rattle.arcs.specs.Curves.{arc_questions}
+use Rattle.arcs.specs.Ends.{curves_of}
+use Rattle.arcs.specs.Laws.{ReachesEnd, FiniteIfEnds}
 use Rattle.sinks.specs.Meaning.{Meaning, SinkActs, takes}
 
 -- a radius is 0 or minus 0
@@ -37,7 +39,7 @@ module _ {S : Type 0} (sinks : SinkActs S) where
   sending (c ∷ cs) s n = cond (takes (sinks.meaning s) c) (sending cs (sinks.took s c) (n + 1)) (record { sink = s; sent = n; going = false })
 
   abbrev pub drawn : Functions → ArcTo → S → Sending S
-  drawn F a s = sending (arc_curves F true a) s 0
+  drawn F a s = sending (curves_of F true a) s 0
 
   -- a zero radius is asked first, and then nothing is sent
   abbrev pub arc_answer : Functions → ArcTo → S → Result ℕ Refusal
@@ -64,3 +66,10 @@ taken (Err r) = r.sent
 -- that many of the curves, from the first on, joined the sink's list, each through its map
 abbrev pub Joined : Meaning → Result ℕ Refusal → List Command → Meaning → Type 0
 Joined before answer curves now = now.list ≡ before.list ++ map before.map (take (taken answer) curves)
+
+-- what an accepted arc sends ends at the arc's end, and all that is sent is finite where both ends are
+abbrev pub ReachesIfDrawn : ArcTo → Result ℕ Refusal → List Command → Type 0
+ReachesIfDrawn a answer curves = IfOk answer (λ n. ReachesEnd a (take n curves))
+
+abbrev pub SentFinite : ArcTo → Result ℕ Refusal → List Command → Type 0
+SentFinite a answer curves = FiniteIfEnds a (take (taken answer) curves)

@@ -4,7 +4,7 @@
 #![tactic(auto)]
 
 ghost use Rattle.std.specs.Prelude.{◌≡◌};
-ghost use Rattle.arcs.specs.Curves.{arc_curves};
+ghost use Rattle.arcs.specs.Ends.{curves_of};
 
 use crate::compared::compare;
 use crate::record::{Damaged, Record, Records};
@@ -36,7 +36,7 @@ fn main(rt: HostRuntime) -> io::Result<()> {
             Err(Damaged) => return println!(rt; "! a record is damaged"),
             Ok(Record::Asked(asked)) => {
                 let rows = decoded(rt.alloc(), asked.rows)?;
-                let curves = curves(TableHost::new(&rows), asked.arc, asked.scaled);
+                let curves = curves(TableHost::new(&rows), asked.arc, asked.alone);
                 print_curves(&rt, curves.as_slice())?;
             }
             Ok(Record::Noted(noted)) => {
@@ -48,10 +48,10 @@ fn main(rt: HostRuntime) -> io::Result<()> {
     print_summary(&rt, summary)
 }
 
-fn curves<K: MathsHost + Drop>(mut host: K, arc: ArcTo, scaled: bool) -> Few
-    ensures { result.items ≡ arc_curves (K.acts.functions host) scaled arc }
+fn curves<K: MathsHost + Drop>(mut host: K, arc: ArcTo, alone: bool) -> Few
+    ensures { result.items ≡ curves_of (K.acts.functions host) alone arc }
 {
-    arc_curves(arc, scaled, &mut host)
+    arc_curves(arc, alone, &mut host)
 }
 
 fn print_curves(rt: &HostRuntime, curves: &[Command]) -> io::Result<()> {

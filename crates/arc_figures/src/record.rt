@@ -4,40 +4,53 @@ ghost use Rattle.std.specs.Iterator.{at_most};
 use arcs::arc_to::{ArcSize, ArcSweep, ArcTo};
 use codec::float::float_of;
 use path::geometry::Point;
+use std::num::f64_from_bits_with_nan;
 
 const ROW_BYTES: usize = 9;
 
-/// Where the middle of a curve lies, and where its end.
+/// A point in f64.
 #[derive(Clone, Copy)]
-pub(crate) struct Place {
-    pub middle: Point,
-    pub end: Point,
+pub(crate) struct Wide {
+    pub x: f64,
+    pub y: f64,
 }
 
-/// The four numbers of a place, as they are written.
-pub(crate) type PlaceBytes = [[u8; 4]; 4];
+/// The two numbers of a place, as they are written.
+pub(crate) type PlaceBytes = [[u8; 8]; 2];
 
 /// The number of bytes of a place.
 const PLACE_BYTES: usize = 16;
 
+/// The parts of an arc at which its places are noted, in 24ths of its turn: where one to four equal curves have
+/// their middles and their ends.
+pub(crate) const PARTS: [usize; 11] = [3, 4, 6, 8, 9, 12, 15, 16, 18, 20, 21];
+
+/// The whole turn in such parts.
+pub(crate) const WHOLE: usize = 24;
+
 /// An arc with the answers of a maths host.
 #[derive(Clone, Copy)]
 pub(crate) struct Asked<'a> {
-    pub scaled: bool,
+    pub alone: bool,
     pub arc: ArcTo,
     pub rows: &'a [u8],
 }
 
-/// An arc with its larger radius and the places of its curves, and of one curve more or less where
-/// the arc ends near a quarter.
+/// An arc, and where it should go unless that does not fit.
 #[derive(Clone, Copy)]
 pub(crate) struct Noted<'a> {
     // A number and no enum: kinds have no names, in the file or elsewhere.
     pub kind: u8,
     pub arc: ArcTo,
-    pub radius: f32,
+    pub way: Option<Way<'a>>,
+}
+
+/// The fewest curves of an arc, how far it goes from its start, and its places at some parts of its turn.
+#[derive(Clone, Copy)]
+pub(crate) struct Way<'a> {
+    pub fewest: u8,
+    pub size: f32,
     pub places: &'a [PlaceBytes],
-    pub others: Option<&'a [PlaceBytes]>,
 }
 
 #[derive(Clone, Copy)]
@@ -111,12 +124,12 @@ impl<'a> Record<'a> {
 
 impl<'a> FromBytes<'a> for Asked<'a> {
     fn first(bytes: &'a [u8]) -> Option<(Asked<'a>, &'a [u8])> {
-        let (scaled, bytes) = bool::first(bytes)?;
+        let (alone, bytes) = bool::first(bytes)?;
         let (arc, bytes) = ArcTo::first(bytes)?;
         let (count, bytes) = bytes.split_first_chunk::<4>()?;
         let count = u32::from_be_bytes(*count) as usize;
         let (rows, bytes) = bytes.split_at_checked(count.checked_mul(ROW_BYTES)?)?;
-        Some((Asked { scaled, arc, rows }, bytes))
+        Some((Asked { alone, arc, rows }, bytes))
     }
 }
 
@@ -124,17 +137,27 @@ impl<'a> FromBytes<'a> for Noted<'a> {
     fn first(bytes: &'a [u8]) -> Option<(Noted<'a>, &'a [u8])> {
         let (kind, bytes) = bytes.split_first()?;
         let (arc, bytes) = ArcTo::first(bytes)?;
-        let (radius, bytes) = f32::first(bytes)?;
-        let (places, bytes) = FromBytes::first(bytes)?;
-        let (others, bytes) = FromBytes::first(bytes)?;
+        let (way, bytes) = FromBytes::first(bytes)?;
         let noted = Noted {
             kind: *kind,
             arc,
-            radius,
-            places,
-            others,
+            way,
         };
         Some((noted, bytes))
+    }
+}
+
+impl<'a> FromBytes<'a> for Way<'a> {
+    fn first(bytes: &'a [u8]) -> Option<(Way<'a>, &'a [u8])> {
+        let (fewest, bytes) = bytes.split_first()?;
+        let (size, bytes) = f32::first(bytes)?;
+        let (places, bytes) = FromBytes::first(bytes)?;
+        let way = Way {
+            fewest: *fewest,
+            size,
+            places,
+        };
+        Some((way, bytes))
     }
 }
 
@@ -151,13 +174,12 @@ impl<'a, T: FromBytes<'a>> FromBytes<'a> for Option<T> {
     }
 }
 
-// A byte that counts the places, and their bytes.
+// The places at all parts.
 impl<'a> FromBytes<'a> for &'a [PlaceBytes] {
     fn first(bytes: &'a [u8]) -> Option<(&'a [PlaceBytes], &'a [u8])> {
-        let (count, bytes) = bytes.split_first()?;
-        let (places, bytes) = bytes.split_at_checked(usize::from(*count) * PLACE_BYTES)?;
-        let (numbers, _) = places.as_chunks::<4>();
-        let (places, _) = numbers.as_chunks::<4>();
+        let (places, bytes) = bytes.split_at_checked(PARTS.len() * PLACE_BYTES)?;
+        let (numbers, _) = places.as_chunks::<8>();
+        let (places, _) = numbers.as_chunks::<2>();
         Some((places, bytes))
     }
 }
@@ -230,13 +252,10 @@ impl<'a> FromBytes<'a> for bool {
     }
 }
 
-impl From<PlaceBytes> for Place {
-    fn from(bytes: PlaceBytes) -> Place {
-        let [x, y, end_x, end_y] = bytes.map(number);
-        Place {
-            middle: Point::new(x, y),
-            end: Point::new(end_x, end_y),
-        }
+impl From<PlaceBytes> for Wide {
+    fn from(bytes: PlaceBytes) -> Wide {
+        let [x, y] = bytes.map(|bytes| f64_from_bits_with_nan(u64::from_be_bytes(bytes)));
+        Wide { x, y }
     }
 }
 

@@ -6,7 +6,7 @@ use std::collections::BTreeMap;
 use std::fmt;
 
 /// The arcs of the kinds from this one on are tried beyond the range in which they should be right.
-pub(crate) const BEYOND: u8 = 9;
+pub(crate) const BEYOND: u8 = 10;
 
 /// Which of the four arcs between two points an arc is.
 #[derive(Clone, Copy, PartialEq, Eq, PartialOrd, Ord)]
@@ -65,7 +65,7 @@ impl Summary {
             let tally = self.flags.entry(Flags::from(arc))?.or_default();
             tally.count(self.arcs, compared);
         }
-        let tally = self.kinds.entry(kind % 16)?.or_default();
+        let tally = self.kinds.entry(kind % 32)?.or_default();
         tally.count(self.arcs, compared);
         self.arcs = self.arcs.saturating_add(1);
         Ok(())

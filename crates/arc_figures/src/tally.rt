@@ -1,4 +1,4 @@
-use crate::compared::Compared;
+use crate::compared::{Compared, Count};
 use distances::figures::one_more;
 use std::fmt;
 use std::num::saturating_f64_to_u64;
@@ -8,31 +8,28 @@ use std::num::saturating_f64_to_u64;
 pub(crate) struct Tally {
     arcs: u64,
     as_many: u64,
-    one_off: u64,
-    miscounted: u64,
+    more: u64,
+    too_few: u64,
     not_finite: u64,
-    off: Off,
-}
-
-// How far off arcs are, in radii: the farthest and its number, and how many are past some limits.
-#[derive(Clone, Copy, Default)]
-struct Off {
-    worst: f64,
-    number: u64,
+    unknown: u64,
+    at_end: Worst,
+    on_way: Worst,
     past_512th: u64,
-    past_128th: u64,
-    past_32nd: u64,
 }
 
-impl Off {
-    fn count(&mut self, number: u64, ratio: f64) {
-        if ratio > self.worst {
-            self.worst = ratio;
+// The largest of some numbers, and the arc that it is of.
+#[derive(Clone, Copy, Default)]
+struct Worst {
+    off: f64,
+    number: u64,
+}
+
+impl Worst {
+    fn count(&mut self, number: u64, off: f64) {
+        if off > self.off || off != off {
+            self.off = off;
             self.number = number;
         }
-        self.past_512th = one_more(self.past_512th, ratio * 512.0 > 1.0);
-        self.past_128th = one_more(self.past_128th, ratio * 128.0 > 1.0);
-        self.past_32nd = one_more(self.past_32nd, ratio * 32.0 > 1.0);
     }
 }
 
@@ -40,16 +37,17 @@ impl Tally {
     /// Counts one arc more, of this number.
     pub(crate) fn count(&mut self, number: u64, compared: Compared) {
         self.arcs = self.arcs.saturating_add(1);
-        let alike = match compared {
-            Compared::NotFinite => &mut self.not_finite,
-            Compared::Miscounted => &mut self.miscounted,
-            Compared::AsMany(_) => &mut self.as_many,
-            Compared::OneOff(_) => &mut self.one_off,
+        let alike = match compared.count {
+            Count::NotFinite => &mut self.not_finite,
+            Count::TooFew => &mut self.too_few,
+            Count::AsMany => &mut self.as_many,
+            Count::More => &mut self.more,
+            Count::Unknown => &mut self.unknown,
         };
         *alike = alike.saturating_add(1);
-        if let Compared::AsMany(ratio) | Compared::OneOff(ratio) = compared {
-            self.off.count(number, ratio);
-        }
+        self.at_end.count(number, compared.at_end);
+        self.on_way.count(number, compared.on_way);
+        self.past_512th = one_more(self.past_512th, compared.on_way * 512.0 > 1.0);
     }
 }
 
@@ -57,22 +55,24 @@ impl fmt::Display for Tally {
     fn fmt<W: fmt::Write>(&self, f: &mut fmt::Formatter<W>) -> fmt::Result {
         writeln!(
             f,
-            "{} arcs: {} with as many curves as expected, {} with one more or less at a quarter, {} with others, {} not finite",
-            self.arcs, self.as_many, self.one_off, self.miscounted, self.not_finite
+            "{} arcs: {} with a curve for each quarter begun, {} with more, {} with fewer, {} whose way does not fit, {} not finite",
+            self.arcs, self.as_many, self.more, self.too_few, self.unknown, self.not_finite
         )?;
-        write!(f, "  {}", self.off)
+        writeln!(f, "  the end off by {} chords", self.at_end)?;
+        write!(
+            f,
+            "  a curve off by {} sizes, {} by more than 1/512",
+            self.on_way, self.past_512th
+        )
     }
 }
 
-impl fmt::Display for Off {
+impl fmt::Display for Worst {
     fn fmt<W: fmt::Write>(&self, f: &mut fmt::Formatter<W>) -> fmt::Result {
-        let units = self.worst * 1048576.0;
+        let units = self.off * 1048576.0;
         write!(
             f,
-            "{} farther off than 1/512 of the radius, {} than 1/128, {} than 1/32; worst {}/2^20 at arc {}",
-            self.past_512th,
-            self.past_128th,
-            self.past_32nd,
+            "{}/2^20 at arc {}",
             saturating_f64_to_u64(units.ceil()),
             self.number
         )

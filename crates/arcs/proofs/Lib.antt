@@ -1,2 +1,5 @@
+mod Reached
 mod Round
 pub mod Quarters
+mod Turns
+mod Unsigned

@@ -38,7 +38,7 @@ size_units f s q k = go (ltb (q * 2 ^ k) (2 ^ (low f + suc (emax f))))
     go true = size_odd (suc (prec f)) q k (low f) s
     go false = refl
 
-size_round : (f : Format) (s : Bool) (a c : ℕ) → size_of (round f s a c) ≡ round f false a c
+pub size_round : (f : Format) (s : Bool) (a c : ℕ) → size_of (round f s a c) ≡ round f false a c
 unfolding round
 size_round f s a c =
     let n = a * 2 ^ low f in
@@ -63,7 +63,7 @@ summed f s t a b c N D C P h k both =
 abbrev turn : Float
 turn = fin false 13176795 (negsuc 20)
 
-abbrev half_turn : Float
+abbrev pub half_turn : Float
 half_turn = fin false 13176795 (negsuc 21)
 
 turn_round : round binary32 false 13176795 (2 ^ 21) ≡ turn
@@ -74,17 +74,17 @@ four_round : round binary32 false (13176795 * 2 ^ 23) (13176795 * 2 ^ 21) ≡ fo
 unfolding round of_bits
 four_round = refl
 
-zero_round : round binary32 false 0 1 ≡ zeroᶠ
+pub zero_round : round binary32 false 0 1 ≡ zeroᶠ
 unfolding round of_bits
 zero_round = refl
 
-half_round : round binary32 false 13176795 (2 ^ 22) ≡ half_turn
+pub half_round : round binary32 false 13176795 (2 ^ 22) ≡ half_turn
 unfolding round
 half_round = refl
 
 -- ---- what compares as fractions do
 
-at_most : (a b : ℕ) (c : Bool) → T (ltb a b || (eqb a b && c)) → a ≤ b
+pub at_most : (a b : ℕ) (c : Bool) → T (ltb a b || (eqb a b && c)) → a ≤ b
 at_most a b c = go (ltb a b) (eqb a b) (ltb→lt a b) (eqb→eq a b)
   where
     go : (x y : Bool) → (T x → a < b) → (T y → a ≡ b) → T (x || (y && c)) → a ≤ b
@@ -92,7 +92,7 @@ at_most a b c = go (ltb a b) (eqb a b) (ltb→lt a b) (eqb→eq a b)
     go false true l e h = omega (arith, e tt)
     go false false l e h = absurd h
 
-or_r : (a b : Bool) → T b → T (a || b)
+pub or_r : (a b : Bool) → T b → T (a || b)
 or_r true b h = tt
 or_r false b h = h
 
@@ -113,22 +113,22 @@ unfolding float_with_sign
 finite s m e h = known (fin s m e) (le_of_values (fin false m e) turn (m * up e) (down e) 13176795 (2 ^ 21) (down_pos e) (omega arith) (refl, refl) (refl, refl) h)
 
 -- an angle as a fraction; one below 0 is minus 0
-abbrev Within : Bool → ℕ → ℤ → Type 0
+abbrev pub Within : Bool → ℕ → ℤ → Type 0
 Within s m e = (m * up e * 2 ^ 22 ≤ 13176795 * down e) × (s ≡ true → m * up e ≡ 0)
 
 -- of the numbers with a minus only minus 0 is not below 0
-no_size : (m : ℕ) (e : ℤ) → T (le zeroᶠ (fin true m e)) → m * up e ≡ 0
+pub no_size : (m : ℕ) (e : ℤ) → T (le zeroᶠ (fin true m e)) → m * up e ≡ 0
 unfolding le lt eq of_bits
 no_size m e h =
     let level : T (eqb (0 * 1 * down e) (m * up e * 1)) = and_l (eqb (0 * 1 * down e) (m * up e * 1)) (false || eqb (0 * 1 * down e) 0) h in
     omega (arith, eqb→eq (0 * 1 * down e) (m * up e * 1) level)
 
-small : (s : Bool) (m : ℕ) (e : ℤ) → Angle (fin s m e) → Within s m e
+pub small : (s : Bool) (m : ℕ) (e : ℤ) → Angle (fin s m e) → Within s m e
 unfolding is_nan le lt eq of_bits
 small false m e h = (at_most (m * up e * 2 ^ 22) (13176795 * 1 * down e) true (and_r (le zeroᶠ (fin false m e)) (le (fin false m e) half_turn) h), λ i. absurd (true≢false (sym i)))
 small true m e h = let none = no_size m e (and_l (le zeroᶠ (fin true m e)) (le (fin true m e) half_turn) h) in (omega (arith, none), λ _. none)
 
-no_inf : (s : Bool) → Angle (inf s) → ⊥
+pub no_inf : (s : Bool) → Angle (inf s) → ⊥
 unfolding is_nan le lt eq of_bits
 no_inf true h = h
 no_inf false h = h
@@ -166,10 +166,10 @@ less (fin s m e) h =
     same_true false e = e
 
 -- with a sign
-abbrev Half : Float → Type 0
+abbrev pub Half : Float → Type 0
 Half t = T (is_nan t || le (size_of t) half_turn)
 
-signed : (t : Bool) (a : Float) → Angle a → Half (fin t 1 (pos 0) ⊗ a)
+pub signed : (t : Bool) (a : Float) → Angle a → Half (fin t 1 (pos 0) ⊗ a)
 unfolding mul
 signed t nan h = unfold is_nan in tt
 signed t (inf s) h = absurd (no_inf s h)

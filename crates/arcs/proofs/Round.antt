@@ -26,6 +26,22 @@ questions_next : (n i : ℕ) (t each : Float) → i < n → all_questions (n - i
 unfolding all_questions
 questions_next n i t each h = ap (λ k. all_questions k t each) (one_less n i h)
 
+-- the first curve, and what is asked for it
+one_first : (n : ℕ) → 0 < n → n ≡ suc (n - 1)
+one_first n h = omega (arith, h)
+
+pub curves_first : (n : ℕ) (F : Functions) (e : Ellipse) (t each : Float) {now : List Command} → 0 < n → now ≡ curve_at F e t (t ⊕ each) ∷ []
+    → now ++ all_curves (n - 1) F e (t ⊕ each) each ≡ all_curves n F e t each
+unfolding all_curves
+curves_first n F e t each h is = ap (λ l. l ++ all_curves (n - 1) F e (t ⊕ each) each) is ∙ sym (ap (λ k. all_curves k F e t each) (one_first n h))
+
+pub questions_first : {S : Type 0} (asked : S → Function → Float → S) (n : ℕ) (t each : Float) (host : S) {now : S} → 0 < n → now ≡ all_asked asked host (curve_questions t (t ⊕ each))
+    → all_asked asked now (all_questions (n - 1) (t ⊕ each) each) ≡ all_asked asked host (all_questions n t each)
+unfolding all_questions
+questions_first asked n t each host h is =
+    let rest = all_questions (n - 1) (t ⊕ each) each in
+    ap (λ s. all_asked asked s rest) is ∙ sym (asked_append asked host (curve_questions t (t ⊕ each)) rest) ∙ ap (λ k. all_asked asked host (all_questions k t each)) (sym (one_first n h))
+
 -- a turn of the loop: what is drawn
 pub curves_more : (n i : ℕ) (F : Functions) (e : Ellipse) (t each : Float) (drawn : List Command) {now all : List Command} → i < n → now ≡ drawn ++ (curve_at F e t (t ⊕ each) ∷ [])
     → drawn ++ all_curves (n - i) F e t each ≡ all → now ++ all_curves (n - (i + 1)) F e (t ⊕ each) each ≡ all

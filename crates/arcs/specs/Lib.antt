@@ -1,3 +1,6 @@
 pub mod Curves
 pub mod Centres
 pub mod Sweeps
+pub mod Chords
+pub mod Ends
+pub mod Laws

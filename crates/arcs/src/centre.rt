@@ -38,7 +38,7 @@ pub struct Centred {
 
 // The power of two that brings a length into the range from 1 to 2, or near it at the ends of
 // the range of f32; 1 for what is no finite number.
-fn factor(length: f32) -> f32
+pub(crate) fn factor(length: f32) -> f32
     ensures { result ≡ factor length }
 {
     let exponent = f32_to_bits_with_nan(length) / 0x80_0000 % 256;
@@ -62,13 +62,13 @@ pub(crate) fn larger(a: f32, b: f32) -> f32
 // Half of the way from the end of an arc back to its start, along the axes of the ellipse, with the
 // radii.
 #[derive(Clone, Copy)]
-struct Chord {
-    half: Vector,
-    radii: Radii,
+pub(crate) struct Chord {
+    pub(crate) half: Vector,
+    pub(crate) radii: Radii,
 }
 
 impl Chord {
-    fn largest(self) -> f32
+    pub(crate) fn largest(self) -> f32
         ensures { result ≡ largest self.half self.radii }
     {
         let along = larger(self.half.x.abs(), self.half.y.abs());

@@ -1,11 +1,13 @@
-ghost use Rattle.std.specs.Prelude.{◌≡◌, false, ◌≤◌, length};
+ghost use Rattle.std.specs.Prelude.{◌≡◌, ◌≤◌, T};
 ghost use Rattle.maths.specs.Questions.{all_asked};
-ghost use Rattle.arcs.specs.Curves.{placed, curve_between, round_at, round_questions, turned_of, curve_questions, curve_at, no_chord, all_curves, all_questions, ellipse, centred_of, round_curves, round_all_questions, arc_curves, arc_questions, OneToFour, AsNeeded};
-ghost use Rattle.arcs.specs.Sweeps.{turn_of};
+ghost use Rattle.arcs.specs.Curves.{placed, curve_between, round_at, round_questions, turned_of, curve_questions, curve_at, no_chord, all_curves, all_questions, ellipse, centred_of, round_curves, round_all_questions, arc_questions, OneToFour};
+ghost use Rattle.arcs.specs.Ends.{start_round, curves_of};
+ghost use Rattle.arcs.specs.Laws.{CountedAs, TurnsByFlags, RadiiFit, unsigned, ReachesEnd, FiniteIfEnds};
 ghost use Rattle.arcs.specs.Centres.{half_chord};
 
 use crate::arc_to::ArcTo;
 use crate::centre::{Centred, Turned, TurnedArc};
+use crate::ends::landing;
 use crate::few::{Few, few};
 use crate::radii::Radii;
 use crate::sweep::{Sweep, find_sweep};
@@ -53,6 +55,20 @@ impl Ellipse {
         )
     }
 
+    // The curve from one angle to another, and where it begins.
+    fn first_curve<K: MathsHost>(self, from: f32, to: f32, host: &mut K) -> First
+        ensures start { result.start ≡ placed self (round_at (K.acts.functions host.old) from) }
+        ensures answer { result.curve ≡ curve_at (K.acts.functions host.old) self from to }
+        ensures host { host.new ≡ all_asked K.acts.asked host.old (curve_questions from to) }
+    {
+        let start = round_at(from, host);
+        let end = round_at(to, host);
+        First {
+            start: self.place(start),
+            curve: self.curve(start, end),
+        }
+    }
+
     // The curve from one angle to another.
     fn curve_at<K: MathsHost>(self, from: f32, to: f32, host: &mut K) -> Command
         ensures answer { result ≡ curve_at (K.acts.functions host.old) self from to }
@@ -62,6 +78,20 @@ impl Ellipse {
         let end = round_at(to, host);
         self.curve(start, end)
     }
+}
+
+// A curve, and where it begins.
+#[derive(Clone, Copy)]
+struct First {
+    start: Point,
+    curve: Command,
+}
+
+// Curves, and where the first of them begins.
+#[derive(Clone, Copy)]
+struct Round {
+    start: Point,
+    curves: Few,
 }
 
 // The point of the circle of radius 1 at an angle.
@@ -91,43 +121,40 @@ fn has_no_chord(half: Vector) -> bool
 // So many curves, each as far round as the others.
 #[tactic(auto, using(crate::proofs::Round::no_curves, crate::proofs::Round::no_questions))]
 #[inline(always)]
-fn curves_from<K: MathsHost>(ellipse: Ellipse, sweep: Sweep, host: &mut K) -> Few
-    requires { sweep.count ≤ 4 }
-    ensures answer { result.items ≡ all_curves sweep.count (K.acts.functions host.old) ellipse sweep.start sweep.each }
+fn curves_from<K: MathsHost>(ellipse: Ellipse, sweep: Sweep, host: &mut K) -> Round
+    requires { (1 ≤ sweep.count) × (sweep.count ≤ 4) }
+    ensures start { result.start ≡ placed ellipse (round_at (K.acts.functions host.old) sweep.start) }
+    ensures answer { result.curves.items ≡ all_curves sweep.count (K.acts.functions host.old) ellipse sweep.start sweep.each }
     ensures host { host.new ≡ all_asked K.acts.asked host.old (all_questions sweep.count sweep.start sweep.each) }
 {
-    let mut curves = few(&[]);
-    let mut angle = sweep.start;
-    for i in 0..sweep.count {
+    let mut angle = sweep.start + sweep.each;
+    let First { start, curve } = ellipse.first_curve(sweep.start, angle, host);
+    let mut curves = few(&[curve]);
+    for i in 1..sweep.count {
         let next = angle + sweep.each;
         let _ = curves.push(ellipse.curve_at(angle, next, host));
         angle = next;
     }
-    curves
+    Round { start, curves }
 }
 
 #[tactic(auto, using(crate::proofs::Round::sweep_few))]
 #[inline(always)]
-fn curves_round<K: MathsHost>(turned_arc: TurnedArc, centred: Centred, host: &mut K) -> Few
-    ensures answer { result.items ≡ round_curves (K.acts.functions host.old) turned_arc.arc turned_arc.turned centred }
+fn curves_round<K: MathsHost>(turned_arc: TurnedArc, centred: Centred, host: &mut K) -> Round
+    ensures start { result.start ≡ start_round (K.acts.functions host.old) turned_arc.arc turned_arc.turned centred }
+    ensures answer { result.curves.items ≡ round_curves (K.acts.functions host.old) turned_arc.arc turned_arc.turned centred }
     ensures host { host.new ≡ all_asked K.acts.asked host.old (round_all_questions (K.acts.functions host.old) turned_arc.arc centred) }
-    ensures few { (1 ≤ length result.items) × (length result.items ≤ 4) }
-    ensures needed { AsNeeded false (turn_of (K.acts.functions host.old) turned_arc.arc centred) result.items }
 {
     let sweep = find_sweep(turned_arc.arc, centred, host);
     curves_from(Ellipse::new(centred, turned_arc.turned, sweep), sweep, host)
 }
 
-/// The curves of an arc, one to four, or none where its ends are one point. With `scaled` set,
-/// lengths are brought near 1 before their fourth powers are formed: a parameter, since one definition
-/// serves the arcs of strokes too.
-#[tactic(auto, unfolding(crate::specs::Curves::arc_curves, crate::specs::Curves::arc_questions))]
+// The curves of an arc, without what is true of them all.
+#[tactic(auto, unfolding(crate::specs::Curves::arc_questions))]
 #[inline(always)]
-pub fn arc_curves<K: MathsHost>(arc: ArcTo, scaled: bool, host: &mut K) -> Few
-    ensures answer { result.items ≡ arc_curves (K.acts.functions host.old) scaled arc }
-    ensures host { host.new ≡ all_asked K.acts.asked host.old (arc_questions (K.acts.functions host.old) scaled arc) }
-    ensures few { OneToFour (no_chord (half_chord arc (turned_of (K.acts.functions host.old) arc.angle))) result.items }
-    ensures needed { AsNeeded (no_chord (half_chord arc (turned_of (K.acts.functions host.old) arc.angle))) (turn_of (K.acts.functions host.old) arc (centred_of (K.acts.functions host.old) scaled arc)) result.items }
+fn curves_of<K: MathsHost>(arc: ArcTo, alone: bool, host: &mut K) -> Few
+    ensures answer { result.items ≡ curves_of (K.acts.functions host.old) alone arc }
+    ensures host { host.new ≡ all_asked K.acts.asked host.old (arc_questions (K.acts.functions host.old) alone arc) }
 {
     let turned_arc = TurnedArc {
         arc,
@@ -137,5 +164,28 @@ pub fn arc_curves<K: MathsHost>(arc: ArcTo, scaled: bool, host: &mut K) -> Few
     if has_no_chord(half) {
         return few(&[]);
     }
-    curves_round(turned_arc, turned_arc.find_centre(half, scaled), host)
+    let centred = turned_arc.find_centre(half, alone);
+    let Round { start, curves } = curves_round(turned_arc, centred, host);
+    landing(turned_arc, half, alone, start, curves)
+}
+
+/// The curves of an arc, one to four, or none where its ends are one point.
+///
+/// An arc that is `alone` reaches its end: lengths are brought near 1 before their fourth powers are
+/// formed, and where the curves by the centre do not land at both ends, since a number left f32's
+/// range or the chord is short beside the radii, those about the chord stand in. The arcs of
+/// strokes are not alone: they are the Rust's.
+#[inline(always)]
+pub fn arc_curves<K: MathsHost>(arc: ArcTo, alone: bool, host: &mut K) -> Few
+    ensures answer { result.items ≡ curves_of (K.acts.functions host.old) alone arc }
+    ensures host { host.new ≡ all_asked K.acts.asked host.old (arc_questions (K.acts.functions host.old) alone arc) }
+    ensures few { OneToFour (no_chord (half_chord arc (turned_of (K.acts.functions host.old) arc.angle))) result.items }
+    ensures needed { CountedAs (K.acts.functions host.old) alone arc result.items }
+    ensures turns { TurnsByFlags (K.acts.functions host.old) alone arc }
+    ensures grow { RadiiFit (K.acts.functions host.old) alone arc }
+    ensures unsigned { result.items ≡ curves_of (K.acts.functions host.old) alone (unsigned arc) }
+    ensures reaches { T alone → ReachesEnd arc result.items }
+    ensures finite { T alone → FiniteIfEnds arc result.items }
+{
+    curves_of(arc, alone, host)
 }

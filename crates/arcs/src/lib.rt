@@ -4,7 +4,10 @@
 
 pub mod arc_to;
 pub mod centre;
+pub mod chord;
 pub mod ellipse;
+mod ends;
 pub mod few;
+pub mod frame;
 pub mod radii;
 pub mod sweep;

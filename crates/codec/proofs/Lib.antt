@@ -1,3 +1,4 @@
 pub mod Firsts
 pub mod Overwrites
 pub mod Round
+mod Bits

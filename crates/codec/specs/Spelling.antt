@@ -1,6 +1,6 @@
 -- How an item of a job is spelled: its letter, then its operands. Numbers are written by their bits, high byte first.
-use Rattle.std.specs.Prelude.{◌≡◌, ℕ, ◌/◌, ◌%◌, T, List, [], ◌∷◌, ◌++◌, refl, Float}
-use Rattle.std.specs.Float.{nan, binary32}
+use Rattle.std.specs.Prelude.{ℕ, ◌/◌, ◌%◌, T, List, [], ◌∷◌, ◌++◌, Float}
+use Rattle.std.specs.Float.{binary32}
 use Rattle.std.specs.Float.Ieee.{fits, to_bits}
 use Rattle.path.specs.declared.command.Command.{Command}
 use Rattle.path.specs.declared.command.Command.TheVariants.{MoveTo, LineTo, CurveTo, QuadTo, Close}
@@ -31,11 +31,6 @@ word n = (n / 16777216 % 256) ∷ (n / 65536 % 256) ∷ (n / 256 % 256) ∷ (n %
 
 abbrev pub float : Float → List ℕ
 float x = word (to_bits binary32 x)
-
--- every NaN is written 7FC00000
-pub nan_spelled : float nan ≡ 0x7F ∷ 0xC0 ∷ 0 ∷ 0 ∷ []
-unfolding to_bits
-nan_spelled = refl
 
 abbrev pub floats : List Float → List ℕ
 floats [] = []

@@ -1,1 +1,2 @@
 pub mod Within
+pub mod Rising

@@ -13,12 +13,12 @@ by_nan : (n : Bool) (p q : Bool) → (T (not n) → p ≡ true) → (T (not n) �
 by_nan true p q h k = tt
 by_nan false p q h k = rw (h tt, k tt) tt
 
-saturated_within : (x : Float) → Within (saturated x)
+pub saturated_within : (x : Float) → Within (saturated x)
 unfolding of_bits le lt eq is_nan
 saturated_within x = cond_both (lt x zero) zero (cond (lt one x) one x) Within (λ e. tt)
     (λ e. cond_both (lt one x) one x Within (λ f. tt) (λ f. by_nan (is_nan x) (le zero x) (le x one) (λ p. at_most x zero p tt e) (λ p. at_most one x tt p f)))
 
-swapped_within : (x y : Float) → Within x → Within y → Within (swapped x y).0 × Within (swapped x y).1
+pub swapped_within : (x y : Float) → Within x → Within y → Within (swapped x y).0 × Within (swapped x y).1
 swapped_within x y p q = cond_both (lt y x) (y, x) (x, y) (λ (s : Float × Float). Within s.0 × Within s.1) (λ e. (q, p)) (λ e. (p, q))
 
 single_within : (x : Float) → Within x → RootsWithin (single x)

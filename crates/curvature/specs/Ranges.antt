@@ -1,8 +1,9 @@
--- What every cubic's roots are: one to three, each NaN or from 0 to 1.
-use Rattle.std.specs.Prelude.{◌≤◌, ◌&&◌, ◌||◌, T, List, ◌++◌, length, is_nan, slice_index_or, Float}
-use Rattle.std.specs.Float.{nan}
+-- What every cubic's roots are: one to three, each NaN or from 0 to 1; without NaN they rise.
+use Rattle.std.specs.Prelude.{◌≤◌, ◌&&◌, ◌||◌, T, List, ◌++◌, length, is_nan, slice_index_or, All, AllPairs, Float}
+use Rattle.std.specs.Float.{nan, NotNan, ◌<ᶠ◌}
 use Rattle.std.specs.Float.Ieee.{le}
 use Rattle.numbers.specs.Arithmetic.{zero, one}
+use Rattle.curves.specs.Lines.{FromZeroToOne}
 use Rattle.fixed.specs.Places.{Places}
 
 abbrev pub Within : Float → Type 0
@@ -18,3 +19,7 @@ pub record RootsWithin (r : Places Float) : Type 0 where
   pub first : Within (slice_index_or (all_places r) 0 nan)
   pub second : Within (slice_index_or (all_places r) 1 nan)
   pub third : Within (slice_index_or (all_places r) 2 nan)
+
+-- Where no root is NaN, each is below all later ones and lies from 0 to 1.
+abbrev pub RootsRise : Places Float → Type 0
+RootsRise r = All NotNan r.items → AllPairs ◌<ᶠ◌ r.items × All FromZeroToOne r.items

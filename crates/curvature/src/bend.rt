@@ -1,6 +1,6 @@
 ghost use Rattle.std.specs.Prelude.{◌≡◌};
 ghost use Rattle.maths.specs.Questions.{all_asked};
-ghost use Rattle.curvature.specs.Ranges.{RootsWithin};
+ghost use Rattle.curvature.specs.Ranges.{RootsWithin, RootsRise};
 ghost use Rattle.curvature.specs.Bends.{coefficients, summed, bend, bends, bend_questions};
 
 use crate::roots::{Roots, solve};
@@ -12,6 +12,7 @@ pub fn max_curvature<K: MathsHost>(curve: Curve, host: &mut K) -> Roots
     ensures answer { result ≡ bends (K.acts.functions host.old) curve }
     ensures host { host.new ≡ all_asked K.acts.asked host.old (bend_questions (K.acts.functions host.old) curve) }
     ensures within { RootsWithin result }
+    ensures rising { RootsRise result }
 {
     solve(bend(curve), host)
 }

@@ -3,7 +3,7 @@ ghost use Rattle.maths.specs.Questions.{all_asked};
 ghost use Rattle.maths.specs.declared.host.Function.TheVariants.{Cosine, ArcCosine};
 ghost use Rattle.numbers.specs.Arithmetic.{◌⊘◌};
 ghost use Rattle.curves.specs.Curves.{three};
-ghost use Rattle.curvature.specs.Ranges.{RootsWithin};
+ghost use Rattle.curvature.specs.Ranges.{RootsWithin, RootsRise};
 ghost use Rattle.curvature.specs.Roots.{saturated, reduced, turned, swapped, sorted, distinct, trisected, three_questions, cosine_asked, power_asked, from_power, has_three_roots, only_root, one_question, roots_of, questions_of, roots, questions};
 
 use fixed::FixedList;
@@ -22,11 +22,11 @@ struct Reduced {
 }
 
 /// The roots of the cubic with these coefficients, highest first, each kept within 0 and 1.
-#[tactic(auto, using(crate::proofs::Within::roots_within))]
 pub fn solve<K: MathsHost>(coeff: [f32; 4], host: &mut K) -> Roots
     ensures answer { result ≡ roots (K.acts.functions host.old) coeff }
     ensures host { host.new ≡ all_asked K.acts.asked host.old (questions (K.acts.functions host.old) coeff) }
     ensures within { RootsWithin result }
+    ensures rising { RootsRise result }
 {
     Reduced::new(coeff).roots(host)
 }

@@ -1,2 +1,4 @@
 mod Chords
 mod Times
+mod LineTimes
+mod Reversing

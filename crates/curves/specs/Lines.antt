@@ -1,7 +1,8 @@
 -- Lines.
 use Rattle.std.specs.Prelude.{cond, Float}
+use Rattle.std.specs.Float.{◌≤ᶠ◌}
 use Rattle.std.specs.Float.Ieee.{lt}
-use Rattle.numbers.specs.Arithmetic.{◌⊘◌, one}
+use Rattle.numbers.specs.Arithmetic.{◌⊘◌, zero, one}
 use Rattle.path.specs.declared.geometry.Vector.{Vector}
 use Rattle.path.specs.Vectors.{sum, difference, multiple, length_of}
 use Rattle.curves.specs.declared.line.Line.{Line}
@@ -26,6 +27,10 @@ time_at distance time = record { distance = distance; time = time }
 -- a distance past the end counts as the end
 abbrev pub line_time : Line → Float → SegmentTime
 line_time l distance = cond (lt (line_length l) distance) (time_at (line_length l) one) (time_at distance (distance ⊘ line_length l))
+
+-- a time of a line's points
+abbrev pub FromZeroToOne : Float → Type 0
+FromZeroToOne t = (zero ≤ᶠ t) × (t ≤ᶠ one)
 
 abbrev pub line_reverse : Line → Line
 line_reverse l = line l.b l.a

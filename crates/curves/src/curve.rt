@@ -84,8 +84,10 @@ impl Curve {
         )
     }
 
+    /// The curve run through the other way; twice, and it is the curve again.
     pub fn reverse(self) -> Curve
-        ensures { result ≡ reversed self }
+        ensures value { result ≡ reversed self }
+        ensures back { reversed result ≡ self }
     {
         Curve::new(self.d, self.c, self.b, self.a)
     }
@@ -99,9 +101,11 @@ impl Curve {
         self.blend([u * u * u, 3.0 * u * u * t, 3.0 * u * t * t, t * t * t])
     }
 
-    /// Whether two of the three legs are shorter than the tolerance in both coordinates.
+    /// Whether two of the three legs are shorter than the tolerance in both coordinates; the way in
+    /// which the curve is run through makes no difference.
     pub fn is_line(self, tolerance: f32) -> bool
-        ensures { result ≡ two_legs_near self tolerance }
+        ensures value { result ≡ two_legs_near self tolerance }
+        ensures either_way { result ≡ two_legs_near (reversed self) tolerance }
     {
         let ab = self.a.nearly_eq_by(self.b, tolerance);
         let bc = self.b.nearly_eq_by(self.c, tolerance);

@@ -1,5 +1,5 @@
 -- The digits of a number above 0, by its pattern.
-use Rattle.std.proofs.Common.{◌≡◌, ℕ, zero, suc, ◌+◌, ◌-◌, ◌*◌, ◌/◌, ◌%◌, ◌^◌, ◌<◌, ◌≤◌, Bool, true, false, cond, ◌&&◌, T, eqb, ltb, leb, ℤ, pos, refl, sym, ap, ◌∙◌, subst, arith, inl, inr, true≢false, ltb→lt, leb→le, mul-pos, eq-zero-or-pos, le-div_iff_mul-le, div-lt_iff_lt-mul, mod-eq_of_lt, pow-add, pow_mono, ne_eqb, ltb-true, one-mul}
+use Rattle.std.proofs.Common.{◌≡◌, ℕ, zero, suc, ◌+◌, ◌-◌, ◌*◌, ◌/◌, ◌%◌, ◌^◌, ◌<◌, ◌≤◌, Bool, true, false, cond, ◌&&◌, T, eqb, ltb, leb, ℤ, pos, refl, sym, ap, ◌∙◌, subst, arith, inl, inr, true≢false, ltb→lt, leb→le, eq-zero-or-pos, le-div_iff_mul-le, div-lt_iff_lt-mul, mod-eq_of_lt, pow-add, pow_mono, ne_eqb, ltb-true, one-mul}
 use Rattle.std.proofs.lemmas.Bool.{and_parts}
 use Rattle.std.proofs.lemmas.Float.{T_from_true}
 use borrow.Author.Tests.{lt-leb}
@@ -7,7 +7,8 @@ use lib.Ieee.{Float, nan, inf, fin, binary32, up, down, size, lt, odd, of_fields
 use lib.Ieee.Bits.{of_bits-to_bits}
 use lib.Ieee.Digits.{size-le}
 use lib.Ieee.Exact.{HasValue, odd_sign}
-use lib.Ieee.Fits.{up_pos, down_pos, and_l, and_r, kept-lt}
+use lib.Ieee.Fits.{down_pos, and_l, and_r, kept-lt}
+use Rattle.numbers.proofs.Patterns.{zero_is, above_nought}
 use Rattle.dashes.specs.Remainders.{positive, HasDigits}
 
 -- ---- what a pattern stands for
@@ -64,10 +65,6 @@ high_power p lo hi =
 
 -- ---- the pattern of a number above 0 and below the infinity
 
-pub zero_is : of_bits binary32 0 ≡ fin false 0 (pos 0)
-unfolding of_bits
-zero_is = refl
-
 pub infinity_is : of_bits binary32 0x7f80_0000 ≡ inf false
 unfolding of_bits
 infinity_is = refl
@@ -77,9 +74,6 @@ above x = lt (fin false 0 (pos 0)) x && lt x (inf false)
 
 pub above_is : (x : Float) → positive x ≡ above x
 above_is x i = lt (zero_is i) x && lt x (infinity_is i)
-
-pub some : (m : ℕ) (e : ℤ) → 0 < suc m * up e
-some m e = mul-pos {m = suc m} (omega arith) (up_pos e)
 
 not_above_zero : (e : ℤ) → above (fin false zero e) ≡ true → ⊥
 unfolding lt
@@ -103,7 +97,7 @@ bits_in m e f =
     let low : down e ≤ 2 ^ 149 = leb→le (down e) (2 ^ 149) (and_r a b (and_l (a && b) t f)) in
     let high : suc m * up e < 2 ^ 128 * down e = ltb→lt (suc m * up e) (2 ^ 128 * down e) (and_r (a && b) t f) in
     pattern_in (suc m * up e * 2 ^ 149 / down e)
-    ((le-div_iff_mul-le (down_pos e)).1 (omega (arith, some m e)))
+    ((le-div_iff_mul-le (down_pos e)).1 (omega (arith, above_nought m e)))
     ((div-lt_iff_lt-mul (down_pos e)).1 (omega arith))
 
 above_bits : (x : Float) → T (fits binary32 x) → above x ≡ true → (0 < to_bits binary32 x) × (to_bits binary32 x < 255 * 2 ^ 23)

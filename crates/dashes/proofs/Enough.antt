@@ -9,7 +9,9 @@ use Rattle.std.specs.Float.Ieee.{eq, lt, le, is_nan, of_bits, of_fields, odd, up
 use Rattle.numbers.specs.Arithmetic.{◌⊕◌, zero, one}
 use Rattle.dashes.specs.Patterns.{joined_over, following, length_at, empty_after, full, gap_of_one, room_between, JoinsAll}
 use Rattle.dashes.proofs.Joining.{one_more, stops}
-use Rattle.dashes.proofs.Rooms.{is_true, le_one}
+use lib.Ieee.Bits.{is_true}
+use Rattle.numbers.proofs.Patterns.{zero_is}
+use Rattle.dashes.proofs.Rooms.{le_one}
 
 -- the place of the dash that is t gaps on
 abbrev jumps : ℕ → List Float → ℕ → ℕ
@@ -89,10 +91,6 @@ comes_round n i k first last even =
     ]
 
 -- ---- a pattern has a gap that is not empty
-
-zero_is : zero ≡ fin false 0 (pos 0)
-unfolding of_bits
-zero_is = refl
 
 above : (x : Float) → lt (fin false 0 (pos 0)) x ≡ true → eq x (fin false 0 (pos 0)) ≡ false
 unfolding lt eq

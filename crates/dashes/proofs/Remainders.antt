@@ -1,12 +1,14 @@
 -- The remainder of two numbers above 0, by their digits.
-use Rattle.std.proofs.Common.{◌≡◌, ℕ, zero, suc, ◌+◌, ◌-◌, ◌*◌, ◌/◌, ◌%◌, ◌^◌, ◌<◌, ◌≤◌, Bool, true, false, cond, eqb, ltb, lt-ltb, T, ℤ, pos, refl, sym, ap, ◌∙◌, subst, arith, lit<, lit≤, mul_assoc, mul_comm, mul_right_comm, mul-one, one-mul, pow-add, pow_pos, pow_mono, mul-pos, add-mul, true≢false, ne_eqb, mul-lt-mul_of_pos_right, mul-le-mul_right, mul-le-mul_left, div-add-mod', mod-eq_of_lt, mod-lt, lt_of_lt_of_le, le_trans}
+use Rattle.std.proofs.Common.{◌≡◌, ℕ, zero, suc, ◌+◌, ◌-◌, ◌*◌, ◌/◌, ◌%◌, ◌^◌, ◌<◌, ◌≤◌, Bool, true, false, cond, eqb, ltb, lt-ltb, ℤ, pos, refl, sym, ap, ◌∙◌, subst, arith, lit<, lit≤, mul_assoc, mul_comm, mul_right_comm, mul-one, one-mul, pow-add, pow_pos, pow_mono, mul-pos, add-mul, true≢false, ne_eqb, mul-lt-mul_of_pos_right, mul-le-mul_right, mul-le-mul_left, div-add-mod', mod-eq_of_lt, mod-lt, lt_of_lt_of_le, le_trans}
 use Rattle.std.proofs.Math.Nat.{mul-add-mod_self_right}
 use lib.Ieee.{Float, nan, inf, fin, binary32, up, down, round, mul, rem, of_int, of_bits, lt, le, eq, is_nan}
 use Rattle.std.proofs.lemmas.Bool.{and_from, or_from, and_left, ltb-true, le-ltb}
 use Rattle.std.proofs.lemmas.Float.{T_from_false, lt_of_not-le}
 use Rattle.dashes.specs.Remainders.{positive}
 use Rattle.std.specs.Float.{float_with_sign}
-use Rattle.dashes.proofs.Digits.{zero_is, infinity_is, some}
+use Rattle.numbers.proofs.Patterns.{nan_is, zero_is, above_nought}
+use Rattle.dashes.proofs.Digits.{infinity_is}
+use lib.Ieee.Bits.{is_true}
 use lib.Ieee.Exact.{HasValue, round_exact}
 use lib.Ieee.Scale.{round_same}
 use lib.Ieee.Fits.{down_pos}
@@ -137,10 +139,6 @@ rem_size (fin s m e) nan = refl
 rem_size (fin s m e) (inf t) = refl
 rem_size (fin s m e) (fin t n d) = refl
 
-nan_is : of_bits binary32 0x7fc0_0000 ≡ nan
-unfolding of_bits
-nan_is = refl
-
 infinite : (x y : Float) → lt x (inf false) ≡ false → nan ≡ rem binary32 x y
 unfolding rem lt
 infinite nan y h = refl
@@ -151,7 +149,7 @@ pub rem_infinite : (x y : Float) → lt x infinity ≡ false → of_bits binary3
 rem_infinite x y h = nan_is ∙ infinite x y (sym (ap (lt x) infinity_is) ∙ h)
 
 not_below : (n : ℕ) (d : ℤ) → ltb (0 * 1 * down d) (suc n * up d * 1) ≡ false → ⊥
-not_below n d h = true≢false (sym (lt-ltb (0 * 1 * down d) (suc n * up d * 1) (omega (arith, some n d))) ∙ h)
+not_below n d h = true≢false (sym (lt-ltb (0 * 1 * down d) (suc n * up d * 1) (omega (arith, above_nought n d))) ∙ h)
 
 by_none : (x y : Float) → lt (fin false 0 (pos 0)) (float_with_sign false y) ≡ false → nan ≡ rem binary32 x y
 unfolding rem lt float_with_sign
@@ -179,10 +177,6 @@ rem_whole x y size is a b c d =
     by_infinite x y (sym (ap (le x) zero_is) ∙ a) (sym (ap (lt x) infinity_is) ∙ b)
     (sym (ap (λ (z : Float). lt z (float_with_sign false y)) zero_is) ∙ sym (ap (lt naught) is) ∙ c)
     (sym (ap (lt (float_with_sign false y)) infinity_is) ∙ sym (ap (λ (z : Float). lt z infinity) is) ∙ d)
-
-is_true : (b : Bool) → T b → b ≡ true
-is_true true t = refl
-is_true false t = absurd t
 
 over_zero : (x : Float) → le x (fin false 0 (pos 0)) ≡ false → lt x (inf false) ≡ true → lt (fin false 0 (pos 0)) x ≡ true
 unfolding lt is_nan

@@ -1,16 +1,13 @@
 -- What is accepted has room between its dashes.
-use Rattle.std.proofs.Common.{◌≡◌, ◌≤◌, ◌<◌, ◌⊎◌, Bool, true, false, not, ◌&&◌, T, List, [], ◌∷◌, length, nat_eq, IsTrue, nat_le, inl, inr, refl, sym, ap, ◌∙◌, arith, true≢false, Float}
+use Rattle.std.proofs.Common.{◌≡◌, ◌≤◌, ◌<◌, ◌⊎◌, Bool, true, false, not, ◌&&◌, List, [], ◌∷◌, length, nat_eq, IsTrue, nat_le, inl, inr, refl, sym, ap, ◌∙◌, arith, true≢false, Float}
 use Rattle.std.specs.Float.{nan, inf, fin, NotNan}
 use Rattle.std.specs.Float.Ieee.{lt, le, add, is_nan, of_bits, of_fields, odd}
 use Rattle.std.specs.Int.Count.{count_trailing_zeros}
 use Rattle.std.proofs.lemmas.Bool.{and_parts, or_parts, leb-true, cases_Bool, eqb-true, or_cases, not-true, cond_both}
 use Rattle.std.proofs.lemmas.Float.{T_from_false, le_of_not-lt}
+use lib.Ieee.Bits.{is_true}
 use Rattle.numbers.specs.Arithmetic.{◌⊕◌, zero, one}
 use Rattle.dashes.specs.Patterns.{some, full, with_gap, gap_sum, has_gap, gap_of_one, room_between, accepted, negative}
-
-pub is_true : (b : Bool) → T b → b ≡ true
-is_true true t = refl
-is_true false t = absurd t
 
 one_number : NotNan one
 unfolding is_nan of_bits of_fields odd count_trailing_zeros

@@ -7,9 +7,10 @@ use Rattle.path.specs.declared.command.Command.{Command}
 use Rattle.path.specs.declared.command.Command.TheVariants.{LineTo}
 use Rattle.path.specs.declared.style.Cap.{Cap}
 use Rattle.path.specs.declared.style.Cap.TheVariants.{Butt, Square, Round}
+use Rattle.path.specs.declared.geometry.Vector.{Vector}
 use Rattle.path.specs.Vectors.{vector, sum, multiple}
 use Rattle.pen.specs.declared.corner.Turn.{Turn}
-use Rattle.joins.specs.Joins.{round_commands, round_questions}
+use Rattle.joins.specs.Joins.{EndsIn, round_commands, round_questions}
 
 -- out beyond the end by the radius, across, and back
 abbrev pub square_cap : Float → Turn → List Command
@@ -25,3 +26,9 @@ abbrev pub cap_questions : Functions → Cap → Float → Turn → List Questio
 cap_questions F Butt r t = []
 cap_questions F Square r t = []
 cap_questions F Round r t = round_questions F r t
+
+-- A cap that is not round ends where the next side begins.
+abbrev pub CapLeadsTo : Vector → Cap → List Command → Type 0
+CapLeadsTo to Butt cs = EndsIn (LineTo to) cs
+CapLeadsTo to Square cs = EndsIn (LineTo to) cs
+CapLeadsTo to Round cs = Unit {0}

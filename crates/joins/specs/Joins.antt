@@ -1,10 +1,11 @@
 -- The commands of a join.
-use Rattle.std.specs.Prelude.{false, cond, List, [], ◌∷◌, Float}
+use Rattle.std.specs.Prelude.{◌≡◌, false, cond, List, [], ◌∷◌, ◌++◌, Float}
 use Rattle.numbers.specs.Arithmetic.{zero}
 use Rattle.maths.specs.Functions.{Functions}
 use Rattle.maths.specs.Questions.{Question}
 use Rattle.path.specs.declared.command.Command.{Command}
 use Rattle.path.specs.declared.command.Command.TheVariants.{LineTo}
+use Rattle.path.specs.declared.geometry.Vector.{Vector}
 use Rattle.path.specs.Vectors.{near}
 use Rattle.pen.specs.declared.nib.Nib.{Nib}
 use Rattle.pen.specs.declared.corner.Corner.{Corner}
@@ -25,6 +26,10 @@ round_commands F r t = arc_curves F false (half_circle r t)
 
 abbrev pub round_questions : Functions → Float → Turn → List Question
 round_questions F r t = arc_questions F false (half_circle r t)
+
+-- some commands, and the last of them
+abbrev pub EndsIn : Command → List Command → Type 0
+EndsIn last cs = (before : List Command) × (cs ≡ before ++ last ∷ [])
 
 -- what a corner is drawn by
 abbrev pub shaped : Functions → Corner → Nib → Turn → List Command
@@ -54,3 +59,13 @@ join_questions F nib t = shaped_questions F (corner_of nib t) nib t
 -- between two pieces of one curve
 abbrev pub split_corner : Turn → Corner
 split_corner t = cond (near t.from t.to) Meet (cond (clockwise t.from_normal t.to_normal) Round Inner)
+
+-- What leads from one side to the next: a join that is not round ends where the next side begins, and where the two ends meet nothing is drawn. A round one ends where its arc does.
+abbrev pub LeadsTo : Vector → Corner → List Command → Type 0
+LeadsTo to Meet cs = cs ≡ []
+LeadsTo to Inner cs = EndsIn (LineTo to) cs
+LeadsTo to Bevel cs = EndsIn (LineTo to) cs
+LeadsTo to Round cs = Unit {0}
+LeadsTo to NegativeDot cs = EndsIn (LineTo to) cs
+LeadsTo to PastLimit cs = EndsIn (LineTo to) cs
+LeadsTo to Miter cs = EndsIn (LineTo to) cs

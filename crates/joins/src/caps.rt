@@ -1,6 +1,6 @@
 ghost use Rattle.std.specs.Prelude.{◌≡◌};
 ghost use Rattle.maths.specs.Questions.{all_asked};
-ghost use Rattle.joins.specs.Caps.{square_cap, cap_commands, cap_questions};
+ghost use Rattle.joins.specs.Caps.{square_cap, cap_commands, cap_questions, CapLeadsTo};
 
 use crate::round::round;
 use arcs::few::{Few, few};
@@ -22,10 +22,12 @@ fn square(radius: f32, turn: Turn) -> Few
     ])
 }
 
-/// The commands of a cap, from one side of a stroke across to the other.
+/// The commands of a cap, from one side of a stroke across to the other. If it is not round it ends
+/// where that side begins.
 pub fn cap_commands<K: MathsHost>(shape: Cap, radius: f32, turn: Turn, host: &mut K) -> Few
     ensures answer { result.items ≡ cap_commands (K.acts.functions host.old) shape radius turn }
     ensures host { host.new ≡ all_asked K.acts.asked host.old (cap_questions (K.acts.functions host.old) shape radius turn) }
+    ensures leads { CapLeadsTo turn.to shape result.items }
 {
     match shape {
         Cap::Butt => few(&[Command::LineTo(turn.to)]),

@@ -1,6 +1,7 @@
 ghost use Rattle.std.specs.Prelude.{◌≡◌, true};
 ghost use Rattle.maths.specs.Questions.{all_asked};
-ghost use Rattle.joins.specs.Joins.{join_commands, join_questions, shaped, shaped_questions, split_corner};
+ghost use Rattle.joins.specs.Joins.{join_commands, join_questions, shaped, shaped_questions, split_corner, LeadsTo};
+ghost use Rattle.pen.specs.Corners.{corner_of};
 
 use crate::round::round;
 use arcs::few::{Few, few};
@@ -11,10 +12,12 @@ use pen::corner::{Corner, is_clockwise, miter_point};
 use pen::nib::Nib;
 
 /// The commands of a join, by what shapes its corner: with a nib, which a whole stroke shares, at a turn.
+/// If it is not round it ends where the next side begins.
 #[inline(always)]
 pub fn join<K: MathsHost>(nib: Nib, turn: Turn, host: &mut K) -> Few
     ensures answer { result.items ≡ join_commands (K.acts.functions host.old) nib turn }
     ensures host { host.new ≡ all_asked K.acts.asked host.old (join_questions (K.acts.functions host.old) nib turn) }
+    ensures leads { LeadsTo turn.to (corner_of nib turn) result.items }
 {
     shape(Corner::between(nib, turn), nib, turn, host)
 }
@@ -24,6 +27,7 @@ pub fn join<K: MathsHost>(nib: Nib, turn: Turn, host: &mut K) -> Few
 pub fn split_join<K: MathsHost>(nib: Nib, turn: Turn, host: &mut K) -> Few
     ensures answer { result.items ≡ shaped (K.acts.functions host.old) (split_corner turn) nib turn }
     ensures host { host.new ≡ all_asked K.acts.asked host.old (shaped_questions (K.acts.functions host.old) (split_corner turn) nib turn) }
+    ensures leads { LeadsTo turn.to (split_corner turn) result.items }
 {
     shape(split_corner(turn), nib, turn, host)
 }

@@ -1,1 +1,6 @@
+mod Filling
+pub mod Growing
 mod Hex
+mod Paths
+pub mod Reports
+mod Shown

@@ -1,2 +1,4 @@
 pub mod Text
 pub mod Listing
+pub mod Printing
+pub mod Streams

@@ -1,49 +1,48 @@
-ghost use Rattle.std.specs.Prelude.{◌≡◌, IfOk};
-ghost use Rattle.job.specs.Readers.{start};
-ghost use Rattle.job.specs.Whole.{whole};
-ghost use Rattle.lines.specs.Listing.{style_lines, total, job_lines, refusal_lines, listed};
+ghost use Rattle.std.specs.Prelude.{◌≡◌, drop, IfSome, OnOk, Some};
+ghost use Rattle.lines.specs.Listing.{style_lines, total, accepted, job_lines, listing_of};
+ghost use Rattle.lines.specs.Printing.{text_of};
+ghost use Rattle.lines.specs.Streams.{Writes};
 
 use crate::line::Line;
+use crate::printing::{print, print_all};
+use crate::program::{Program, run};
 use codec::item::Item;
-use job::reader::JobReader;
 use job::whole::Job;
-use path::refusal::Refusal;
 use path::style::Stroke;
-use std::alloc::{AllocError, Global};
+use std::io;
+use std::io::{Read, Write};
 
-/// Reads a job and lists what it holds: the style, the dashes, the path, and how many of them. A job
-/// that is refused is listed as its refusal alone.
-pub fn listing(heap: Global, bytes: &[u8], job: &mut Job) -> Result<Vec<Line>, AllocError>
-    ensures lines { IfOk result (λ v. v.items ≡ listed (whole (start bytes.entry) job.old)) }
-    ensures job { job.new ≡ (whole (start bytes.entry) job.old).job }
+/// Prints what a job holds: the style, the dashes, the path, and how many of them. A job that is refused
+/// is printed as its refusal alone.
+pub fn listing<R: Read, W: Write>(reader: &mut R, writer: &mut W) -> io::Result<()>
+    ensures text { IfSome (R.remaining reader.old) (λ bytes. Writes (W.contents writer.old) (W.contents writer.new) result (listing_of bytes)) }
+    ensures left { OnOk result (IfSome (R.remaining reader.old) (λ bytes. R.remaining reader.new ≡ Some (drop 8192 bytes))) }
 {
-    let mut reader = JobReader::new(bytes);
-    match reader.read(job) {
-        Ok(()) => job_lines(heap, job),
-        Err(refusal) => refusal_lines(heap, refusal),
+    run(reader, writer, Held)
+}
+
+#[derive(Clone, Copy)]
+struct Held;
+
+impl Program for Held {
+    ghost lines = { λ p. job_lines };
+
+    fn report<W: Write>(self, writer: &mut W, job: &Job) -> io::Result<()> {
+        print_job(writer, job)
     }
 }
 
-fn refusal_lines(heap: Global, refusal: Refusal) -> Result<Vec<Line>, AllocError>
-    ensures { IfOk result (λ v. v.items ≡ refusal_lines refusal) }
+fn print_job<W: Write>(writer: &mut W, job: &Job) -> io::Result<()>
+    ensures { Writes (W.contents writer.old) (W.contents writer.new) result (text_of (job_lines (accepted job.now))) }
 {
-    Ok(vec![in heap; Line::Refused(refusal)]?)
-}
-
-fn job_lines(heap: Global, job: &Job) -> Result<Vec<Line>, AllocError>
-    ensures { IfOk result (λ v. v.items ≡ job_lines job.now) }
-{
-    let mut lines = style_lines(heap, job.style)?;
-    let dashes = job.dashes.as_slice().iter();
-    lines.extend(dashes.map(|x| Line::Item(Item::Dash(*x))))?;
-    let commands = job.commands.as_slice().iter();
-    lines.extend(commands.map(|c| Line::Item(Item::Path(*c))))?;
-    lines.push(total(job))?;
-    Ok(lines)
+    print_all(writer, &style_lines(job.style))?;
+    print_all(writer, job.dashes.as_slice())?;
+    print_all(writer, job.commands.as_slice())?;
+    print(writer, total(job))
 }
 
 fn total(job: &Job) -> Line
-    ensures { result ≡ total job.now }
+    ensures { result ≡ total (accepted job.now) }
 {
     Line::Held {
         commands: job.commands.len(),
@@ -51,15 +50,15 @@ fn total(job: &Job) -> Line
     }
 }
 
-fn style_lines(heap: Global, s: Stroke) -> Result<Vec<Line>, AllocError>
-    ensures { IfOk result (λ v. v.items ≡ style_lines s) }
+fn style_lines(s: Stroke) -> [Line; 6]
+    ensures { result ≡ style_lines s }
 {
-    Ok(vec![in heap;
+    [
         Line::Item(Item::Width(s.width)),
         Line::Item(Item::Join(s.join)),
         Line::Item(Item::MiterLimit(s.miter_limit)),
         Line::Item(Item::StartCap(s.start_cap)),
         Line::Item(Item::EndCap(s.end_cap)),
         Line::Item(Item::Offset(s.offset)),
-    ]?)
+    ]
 }

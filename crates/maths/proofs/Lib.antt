@@ -1,6 +1,5 @@
 pub mod Alike
 pub mod Asking
-mod Constants
 mod Narrowing
 mod Remainders
 pub mod Rows

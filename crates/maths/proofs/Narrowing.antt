@@ -1,33 +1,21 @@
 -- The `f32` nearest to an `f64`, by the pattern: 29 digits fewer, and an exponent that counts from 896 less.
-use Rattle.std.proofs.Common.{◌≡◌, ℕ, suc, ◌+◌, ◌-◌, ◌*◌, ◌/◌, ◌%◌, ◌^◌, ◌<◌, ◌≤◌, Bool, true, false, cond, not, T, eqb, leb, sym, refl, ap, ◌∙◌, subst, arith, tests, rules, le-ltb, leb-true, leb-false, ne_eqb, pow-add, pow_pos, pow_mono, mul-pos, mul-le-mul_right, mul-lt-mul_of_pos_right, mul-div_cancel, le-div_iff_mul-le, div-lt_iff_lt-mul, lt_of_not-le, lt_of_lt_of_le, not-le_of_lt, eq-or-lt_of_le, inl, inr}
+use Rattle.std.proofs.Common.{◌≡◌, ℕ, suc, ◌+◌, ◌-◌, ◌*◌, ◌/◌, ◌%◌, ◌^◌, ◌<◌, ◌≤◌, Bool, true, false, cond, not, T, eqb, leb, sym, refl, ap, ◌∙◌, subst, arith, tests, rules, le-ltb, leb-true, leb-false, ne_eqb, pow-add, pow_pos, pow_mono, mul-pos, mul-le-mul_right, mul-lt-mul_of_pos_right, mul-div_cancel, le-div_iff_mul-le, div-lt_iff_lt-mul, eq-or-lt_of_le, inl, inr}
 use Rattle.std.specs.Float.{round_to_format}
 use lib.Ieee.{Float, nan, inf, fin, binary32, binary64, up, down, size, odd, round, units, fits, of_fields, of_bits, to_bits, nan_bits}
 use lib.Ieee.Bits.{of_bits-to_bits, nan_bits_above}
-use lib.Ieee.Digits.{size-lt, size-le}
 use lib.Ieee.Exact.{HasValue, odd_sign, units_val}
 use lib.Ieee.Fits.{down_pos, round_is, round-fits, core}
 use lib.Ieee.Nearest.{closest, closest_same}
 use lib.Ieee.Scale.{round_same}
+use Rattle.numbers.proofs.Patterns.{bits_of_value}
+use Rattle.numbers.proofs.Squares.{size_is}
 
 -- ---- whole numbers
 
 kept_is : (x : ℕ) → (x + 0x0fff_ffff + x / 2 ^ 29 % 2) / 2 ^ 29 ≡ closest x (2 ^ 29)
 kept_is x = search (tests, rules)
 
-size_is : (n j : ℕ) → 2 ^ j ≤ n → n < 2 ^ (j + 1) → size n ≡ j + 1
-size_is n j lo hi =
-    let more : j < size n = lt_of_not-le (λ (g : size n ≤ j). not-le_of_lt (lt_of_lt_of_le (size-lt n) (pow_mono g)) lo) in
-    omega (arith, size-le n (j + 1) hi)
-
 -- ---- the pattern of k * 2 ^ i / 2 ^ 149, with a k of 24 digits
-
-bits_of_value : (x : Float) (s : Bool) (a : ℕ) → HasValue x s a (2 ^ 149) → to_bits binary32 x ≡ cond s (2 ^ 31) 0 + (size a - 24) * 2 ^ 23 + a / 2 ^ (size a - 24)
-unfolding to_bits
-bits_of_value nan s a v = absurd v
-bits_of_value (inf t) s a v = absurd v
-bits_of_value (fin t m e) s a v =
-    let n : m * up e * 2 ^ 149 / down e ≡ a = ap (λ (k : ℕ). k / down e) v.1 ∙ mul-div_cancel a (down_pos e) in
-    λ i. cond (v.0 i) (2 ^ 31) 0 + (size (n i) - 24) * 2 ^ 23 + n i / 2 ^ (size (n i) - 24)
 
 written : (x : Float) (s : Bool) (k i : ℕ) → HasValue x s (k * 2 ^ i) (2 ^ 149) → 2 ^ 23 ≤ k → k < 2 ^ 24 → to_bits binary32 x ≡ cond s (2 ^ 31) 0 + i * 2 ^ 23 + k
 written x s k i v least few =

@@ -1,11 +1,12 @@
 -- What a series host answers at special arguments: each is worked out.
-use Rattle.std.proofs.Common.{◌≡◌, ℕ, zero, suc, ◌+◌, ◌*◌, ◌^◌, ◌<◌, ◌≢◌, Bool, true, false, not, ◌&&◌, T, ℤ, pos, negsuc, refl, sym, subst, ◌∙◌, suc-le-suc, zero-le, mul-pos, pow_pos, pow-add, mul-one, one-mul, true≢false, eqb-true, arith}
+use Rattle.std.proofs.Common.{◌≡◌, ℕ, zero, suc, ap, ◌*◌, Bool, true, false, not, ◌&&◌, T, ℤ, pos, refl, sym, subst, ◌∙◌, true≢false, arith}
 use lib.Count.{count_trailing_zeros}
 use lib.Ieee.{Float, binary32, binary64, fits, is_nan, nan, inf, fin, add, sub, mul, div, rem, neg, eq, lt, le, up, down, round, sum, size, span, climb, units, odd, of_bits, of_fields}
-use lib.Ieee.Fits.{up_pos, and_i, fits_widens}
+use lib.Ieee.Fits.{and_i, fits_widens}
 use Rattle.std.proofs.lemmas.Float.{T_from_true}
 use Rattle.std.specs.Float.{round_to_format, sqrt, float_zero, NotNan}
 use Rattle.std.proofs.lemmas.Bool.{lt-ltb, ne_eqb, and_left}
+use Rattle.numbers.proofs.Patterns.{above_nought, zero_power}
 use Rattle.maths.specs.declared.host.Function.{Function}
 use Rattle.maths.specs.declared.host.Function.TheVariants.{Sine, Cosine, ArcCosine, Tangent, Power}
 use Rattle.maths.specs.Functions.{apply}
@@ -23,21 +24,12 @@ power_of_infinity false = refl
 
 -- ---- 0, of either sign
 
-positive : (m : ℕ) (e : ℤ) → 0 < suc m * up e
-positive m e = mul-pos (suc-le-suc zero-le) (up_pos e)
-
-one : (k : ℕ) → 2 ^ suc k ≢ 1
-one k h = let p : 0 < 2 ^ k = pow_pos k in let is : 2 ^ (k + 1) ≡ 2 ^ k * 2 = pow-add 2 k 1 in omega arith
-
 not_zero : (s : Bool) (m : ℕ) (e : ℤ) → eq (fin s (suc m) e) float_zero ≡ false
 unfolding eq
-not_zero s m e = let p = positive m e in and_left _ _ (ne_eqb (suc m * up e * 1) (0 * down e) (λ q. omega arith))
+not_zero s m e = let p = above_nought m e in and_left _ _ (ne_eqb (suc m * up e * 1) (0 * down e) (λ q. omega arith))
 
 canonical : (s : Bool) (e : ℤ) → fits binary32 (fin s 0 e) ≡ true → fin s 0 e ≡ fin s 0 (pos 0)
-unfolding fits
-canonical s (pos zero) h = refl
-canonical s (pos (suc k)) h = absurd (one k (sym (mul-one (2 ^ suc k)) ∙ eqb-true (2 ^ suc k * 1) 1 h))
-canonical s (negsuc k) h = absurd (one k (sym (one-mul (2 ^ suc k)) ∙ eqb-true (1 * 2 ^ suc k) 1 h))
+canonical s e h = ap (λ (k : ℤ). fin s 0 k) (zero_power s e (T_from_true _ h))
 
 at_zeros : (P : Float → Type 0) → P (fin false 0 (pos 0)) → P (fin true 0 (pos 0)) → (x : Float) → fits binary32 x ≡ true → eq x float_zero ≡ true → P x
 unfolding eq
@@ -97,7 +89,7 @@ of_nan Power = refl
 
 below_zero : (m : ℕ) (e : ℤ) → lt (fin true (suc m) e) float_zero ≡ true
 unfolding lt
-below_zero m e = let p = positive m e in lt-ltb _ _ (omega arith)
+below_zero m e = let p = above_nought m e in lt-ltb _ _ (omega arith)
 
 power_below_zero : (m : ℕ) (e : ℤ) → series.power (fin true (suc m) e) ≡ nan
 unfolding lt of_bits of_fields odd count_trailing_zeros round_to_format

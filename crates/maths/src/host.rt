@@ -133,7 +133,7 @@ pub(crate) fn in_range(y: f32) -> bool
     (0.0 <= y) & (y <= HALF_TURN)
 }
 
-#[tactic(auto, using(crate::proofs::Constants::nan_bits))]
+#[tactic(auto, using(numbers::proofs::Patterns::nan_is))]
 pub(crate) fn not_a_number() -> f32
     ensures { result ≡ nan }
 {

@@ -1,6 +1,6 @@
 -- The root that `Floats.sqrt` rounds is as near as `NearestRoot` says, and no other `f32` is.
-use Rattle.std.proofs.Common.{◌≡◌, ℕ, zero, suc, ◌+◌, ◌-◌, ◌*◌, ◌/◌, ◌^◌, ◌<◌, ◌≤◌, Bool, true, false, T, ℤ, pos, negsuc, sym, refl, ap, ◌∙◌, subst, true≢false, mul-le-mul_right, mul_assoc, div-lt_iff_lt-mul, lt_of_mul-lt-mul_right, mul-lt-mul_of_pos_right, mul-pos, le-div_iff_mul-le, mul_right_comm, mul-div_cancel, arith, ltb→lt, eqb→eq, pow-suc, pow_pos, pow_mono, pow-add}
-use lib.Ieee.{Float, nan, inf, fin, binary32, up, down, size, round, root_below, root_twice, to_bits, of_bits, fits}
+use Rattle.std.proofs.Common.{◌≡◌, ℕ, zero, suc, ◌+◌, ◌-◌, ◌*◌, ◌/◌, ◌^◌, ◌<◌, ◌≤◌, true, false, T, ℤ, sym, refl, ap, ◌∙◌, subst, mul-le-mul_right, mul_assoc, div-lt_iff_lt-mul, lt_of_mul-lt-mul_right, mul-lt-mul_of_pos_right, mul-pos, le-div_iff_mul-le, mul_right_comm, mul-div_cancel, arith, ltb→lt, pow_pos, pow_mono, pow-add}
+use lib.Ieee.{Float, nan, inf, fin, binary32, up, down, size, round, root_below, root_twice, of_bits, fits}
 use lib.Ieee.Bits.{of_bits-to_bits}
 use lib.Ieee.Exact.{HasValue}
 use lib.Ieee.Fits.{down_pos, and_r, sqrt-fits}
@@ -11,6 +11,7 @@ use Rattle.std.proofs.lemmas.Float.{T_from_true}
 use Rattle.std.specs.Float.{sqrt}
 use Rattle.numbers.specs.Roots.{Nearest, Scaled, RootBetween, NearestRoot}
 use Rattle.numbers.proofs.Squares.{twice_above, twice_below, twice_from, merge, four, size_is, closest_is, nearest_of, nearest_digits}
+use Rattle.numbers.proofs.Patterns.{zero_power, bits_of_value}
 use Rattle.numbers.proofs.Scales.{scaled}
 
 -- ---- two values of the format that are a steps of the smallest size are one
@@ -18,19 +19,9 @@ use Rattle.numbers.proofs.Scales.{scaled}
 abbrev Steps : Float → ℕ → Type 0
 Steps x a = HasValue x false a (2 ^ 149)
 
-bits_of : (m : ℕ) (e : ℤ) (a : ℕ) → m * up e * 2 ^ 149 ≡ a * down e → to_bits binary32 (fin false m e) ≡ 0 + (size a - 24) * 2 ^ 23 + a / 2 ^ (size a - 24)
-unfolding to_bits
-bits_of m e a h = ap (λ (k : ℕ). 0 + (size k - 24) * 2 ^ 23 + k / 2 ^ (size k - 24)) (ap (λ (k : ℕ). k / down e) h ∙ mul-div_cancel a (down_pos e))
-
-steps_bits : (x : Float) (a : ℕ) → Steps x a → to_bits binary32 x ≡ 0 + (size a - 24) * 2 ^ 23 + a / 2 ^ (size a - 24)
-steps_bits nan a h = absurd h
-steps_bits (inf s) a h = absurd h
-steps_bits (fin true m e) a h = absurd (true≢false h.0)
-steps_bits (fin false m e) a h = bits_of m e a h.1
-
 same_steps : (x y : Float) (a : ℕ) → T (fits binary32 x) → T (fits binary32 y) → Steps x a → Steps y a → x ≡ y
 same_steps x y a f g h k =
-    sym (of_bits-to_bits binary32 x f) ∙ ap (of_bits binary32) (steps_bits x a h ∙ sym (steps_bits y a k)) ∙ of_bits-to_bits binary32 y g
+    sym (of_bits-to_bits binary32 x f) ∙ ap (of_bits binary32) (bits_of_value x false a h ∙ sym (bits_of_value y false a k)) ∙ of_bits-to_bits binary32 y g
 
 -- ---- t / c rounded, where it lies between q - 1/2 and q + 1/2 of the unit 2 * w; t is twice a root
 
@@ -123,13 +114,6 @@ root_steps : (m : ℕ) (e : ℤ) (n h q : ℕ) → Scaled (fin false (suc m) e) 
 unfolding sqrt
 root_steps m e n h q x near small fine =
     subst (λ (v : ℕ). Steps (round binary32 false (root_twice v) (2 ^ 2272)) (q * 2 ^ (h + 51))) (sym (radicand (suc m * up e) (down e) n h (down_pos e) x.of.1)) (rounded n h q x.low near small fine)
-
--- a zero that a format holds is written in one way
-zero_power : (s : Bool) (e : ℤ) → T (fits binary32 (fin s zero e)) → e ≡ pos 0
-unfolding fits
-zero_power s (pos zero) f = refl
-zero_power s (pos (suc k)) f = absurd (omega (arith, eqb→eq (up (pos (suc k)) * 1) 1 f, pow-suc 2 k))
-zero_power s (negsuc k) f = absurd (omega (arith, eqb→eq (1 * down (negsuc k)) 1 f, pow-suc 2 k))
 
 -- ---- the root is near, and nothing else is
 

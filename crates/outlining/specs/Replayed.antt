@@ -1,23 +1,24 @@
 -- What the program `replay` prints of a setting.
-use Rattle.std.specs.Prelude.{◌/◌, List, length, Ok, Err, Result}
+use Rattle.std.specs.Prelude.{ℕ, List, [], ◌∷◌, ◌++◌, Ok, Err, Result}
 use Rattle.maths.specs.Tables.{tabled}
-use Rattle.path.specs.declared.refusal.Refusal.{Refusal}
-use Rattle.job.specs.declared.whole.Job.{Job}
-use Rattle.job.specs.Whole.{Outcome}
+use Rattle.distances.specs.Rows.{rows_in}
+use Rattle.job.specs.Sayings.{Said, said_by}
 use Rattle.lines.specs.declared.line.Line.{Line}
-use Rattle.lines.specs.Listing.{refusal_lines}
-use Rattle.distances.specs.Rows.{rows_to}
-use Rattle.outlining.specs.declared.setting.Setting.{Setting}
+use Rattle.lines.specs.Listing.{reported}
+use Rattle.lines.specs.Printing.{text_of}
+use Rattle.outlining.specs.declared.setting.Unfit.{Unfit}
+use Rattle.outlining.specs.Messages.{message}
 use Rattle.outlining.specs.Outlined.{stroked_job, lines_of}
+use Rattle.outlining.specs.Settings.{Setting, setting_of}
 
 -- by the rows, with the setting's segments, places and budget
-abbrev pub replayed_lines : Setting → Job → List Line
-replayed_lines s j = lines_of (stroked_job (tabled (rows_to s.rows.now (length s.rows.now / 9))) s.segments s.places s.budget j)
+abbrev pub replayed_lines : Setting → Said → List Line
+replayed_lines s j = lines_of (stroked_job (tabled (rows_in s.rows)) s.segments s.places s.budget j)
 
-abbrev pub replayed_by : Setting → Result (Unit {0}) Refusal → Job → List Line
-replayed_by s (Ok x) j = replayed_lines s j
-replayed_by s (Err r) j = refusal_lines r
+abbrev pub replayed_by : Result Setting Unfit → List ℕ
+replayed_by (Ok s) = text_of (reported (replayed_lines s) (said_by 4096 32 s.job))
+replayed_by (Err why) = message why ++ (10 ∷ [])
 
--- after its job was read
-abbrev pub replayed : Setting → Outcome (Unit {0}) → List Line
-replayed s o = replayed_by s o.answer o.job
+-- what is printed of these bytes
+unfoldable pub replay_of : List ℕ → List ℕ
+replay_of bytes = replayed_by (setting_of bytes)

@@ -1,13 +1,28 @@
-ghost use Rattle.std.specs.Prelude.{◌≡◌, IfOk};
-ghost use Rattle.lines.specs.Listing.{refusal_lines};
+ghost use Rattle.std.specs.Prelude.{◌≡◌};
+ghost use Rattle.lines.specs.Printing.{text_of};
+ghost use Rattle.lines.specs.Streams.{Writes};
 ghost use Rattle.outlining.specs.Drawn.{answer_line, drawn_lines};
 
-use codec::item::Item;
 use lines::line::Line;
+use lines::printing::{print, print_all};
+use path::command::Command;
 use path::refusal::Refusal;
-use sinks::sink::ReadableSink;
-use std::alloc::{AllocError, Global};
+use std::io;
+use std::io::Write;
 use stroke::tally::Tally;
+
+/// Prints a line for each command that a stroke left in a list, and the line of its answer. Where it
+/// fails a front of them was written.
+pub fn print_drawn<W: Write>(
+    writer: &mut W,
+    commands: &[Command],
+    answer: Result<Tally, Refusal>,
+) -> io::Result<()>
+    ensures { Writes (W.contents writer.old) (W.contents writer.new) result (text_of (drawn_lines commands.now answer)) }
+{
+    print_all(writer, commands)?;
+    print(writer, answer_line(answer))
+}
 
 fn answer_line(answer: Result<Tally, Refusal>) -> Line
     ensures { result ≡ answer_line answer }
@@ -16,29 +31,4 @@ fn answer_line(answer: Result<Tally, Refusal>) -> Line
         Ok(Tally { sent, steps }) => Line::Drawn { sent, steps },
         Err(refusal) => Line::Refused(refusal),
     }
-}
-
-/// A line for each command that a sink holds, and the line of an answer.
-pub fn drawn_lines<R: ReadableSink>(
-    heap: Global,
-    sink: &R,
-    answer: Result<Tally, Refusal>,
-) -> Result<Vec<Line>, AllocError>
-    ensures { IfOk result (λ v. v.items ≡ drawn_lines (R.acts.meaning sink.now).list answer) }
-{
-    let mut lines = Vec::new(heap);
-    for i in 0..sink.len() {
-        if let Some(command) = sink.get(i) {
-            lines.push(Line::Item(Item::Path(command)))?;
-        }
-    }
-    lines.push(answer_line(answer))?;
-    Ok(lines)
-}
-
-/// The line of a refusal alone.
-pub fn refusal_lines(heap: Global, refusal: Refusal) -> Result<Vec<Line>, AllocError>
-    ensures { IfOk result (λ v. v.items ≡ refusal_lines refusal) }
-{
-    Ok(vec![in heap; Line::Refused(refusal)]?)
 }

@@ -1,45 +1,85 @@
-ghost use Rattle.std.specs.Prelude.{◌≡◌, IfOk};
-ghost use Rattle.job.specs.Readers.{start};
-ghost use Rattle.job.specs.Whole.{whole};
-ghost use Rattle.outlining.specs.Replayed.{replayed, replayed_lines};
+ghost use Rattle.std.specs.Prelude.{drop, take, IfSome, OnOk, Some, ◌≡◌};
+ghost use Rattle.job.specs.Sayings.{said_by};
+ghost use Rattle.lines.specs.Listing.{accepted, reported};
+ghost use Rattle.lines.specs.Printing.{text_of};
+ghost use Rattle.lines.specs.Streams.{Writes};
+ghost use Rattle.outlining.specs.Replayed.{replay_of, replayed_lines};
+ghost use Rattle.outlining.specs.Settings.{values};
 
-use crate::drawn::{drawn_lines, refusal_lines};
+use crate::drawn::print_drawn;
 use crate::setting::Setting;
-use distances::rows::decoded;
+use distances::byte_table::ByteTable;
 use job::reader::JobReader;
 use job::whole::Job;
 use lines::line::Line;
-use maths::table::TableHost;
+use lines::printing::{print, println};
+use lines::reading::read_up_to;
 use path::command::Command;
 use segments::segment::Segment;
 use sinks::record_list::RecordList;
-use std::alloc::{AllocError, Global};
+use std::alloc::Global;
+use std::io;
+use std::io::{Read, Write};
 use storage::lent_storage::LentStorage;
 use stroke::calls::stroke_with_storage;
 
-/// Reads a setting's job, strokes it with its rows as the maths, and answers the lines of the commands
-/// that were sent and of the answer. A job that is refused is not stroked, and has the line of its
-/// refusal alone.
-pub fn replay(heap: Global, setting: Setting, job: &mut Job) -> Result<Vec<Line>, AllocError>
-    ensures lines { IfOk result (λ v. v.items ≡ replayed setting.entry (whole (start setting.entry.job) job.old)) }
-    ensures job { IfOk result (λ v. job.new ≡ (whole (start setting.entry.job) job.old).job) }
+// The four numbers, the rows, the job, and one byte that shows that it goes on.
+const MOST_BYTES: usize = 16 + 9 * 65_536 + 131_072 + 1;
+
+const MOST_COMMANDS: usize = 4096;
+
+const MOST_DASHES: usize = 32;
+
+/// Reads a setting and replays it. Of the bytes the first 720,913 are read, and those after them stay
+/// unread. Where it fails, also for want of memory, a front of the text was written.
+pub fn replay<R: Read, W: Write>(heap: Global, reader: &mut R, writer: &mut W) -> io::Result<()>
+    ensures text { IfSome (R.remaining reader.old) (λ bytes. Writes (W.contents writer.old) (W.contents writer.new) result (replay_of (take 720913 bytes))) }
+    ensures left { OnOk result (IfSome (R.remaining reader.old) (λ bytes. R.remaining reader.new ≡ Some (drop 720913 bytes))) }
 {
-    let mut reader = JobReader::new(setting.job);
-    match reader.read(job) {
-        Ok(()) => replay_job(heap, setting, job),
-        Err(refusal) => refusal_lines(heap, refusal),
+    let bytes = read_up_to(heap, reader, MOST_BYTES)?;
+    replay_bytes(heap, writer, &bytes)
+}
+
+/// Replays the setting that the bytes tell, or prints why they tell none. Where it fails, also for want
+/// of memory, a front of the text was written.
+#[tactic(auto, unfolding(crate::specs::Replayed::replay_of))]
+pub fn replay_bytes<W: Write>(heap: Global, writer: &mut W, bytes: &[u8]) -> io::Result<()>
+    ensures { Writes (W.contents writer.old) (W.contents writer.new) result (replay_of bytes.now) }
+{
+    match Setting::read(bytes) {
+        Ok(setting) => replay_setting(heap, writer, setting),
+        Err(why) => println(writer, why),
     }
 }
 
-fn replay_job(heap: Global, setting: Setting, job: &Job) -> Result<Vec<Line>, AllocError>
-    ensures { IfOk result (λ v. v.items ≡ replayed_lines setting.entry job.now) }
+/// Reads a setting's job, strokes it with the setting's rows as the maths, and prints the lines of the
+/// commands that were sent and of the answer. A job that is refused is not stroked, and its refusal is
+/// printed alone. Where it fails, also for want of memory, a front of the text was written.
+pub fn replay_setting<W: Write>(heap: Global, writer: &mut W, setting: Setting) -> io::Result<()>
+    ensures { Writes (W.contents writer.old) (W.contents writer.new) result (text_of (reported (replayed_lines (values setting.entry)) (said_by 4096 32 setting.entry.job.now))) }
 {
-    let rows = decoded(heap, setting.rows)?;
+    let mut commands = vec![in heap; Command::Close; MOST_COMMANDS]?;
+    let mut dashes = [0.0; MOST_DASHES];
+    let mut job = Job::new(&mut commands, &mut dashes);
+    match JobReader::new(setting.job).read(&mut job) {
+        Ok(()) => replay_job(heap, writer, setting, &job),
+        Err(refusal) => print(writer, Line::Refused(refusal)),
+    }
+}
+
+fn replay_job<W: Write>(
+    heap: Global,
+    writer: &mut W,
+    setting: Setting,
+    job: &Job,
+) -> io::Result<()>
+    ensures { Writes (W.contents writer.old) (W.contents writer.new) result (text_of (replayed_lines (values setting.entry) (accepted job.now))) }
+{
     let mut places = vec![in heap; Command::Close; setting.places]?;
     let mut segments = vec![in heap; Segment::End(false); setting.segments]?;
     let mut list = RecordList::new(&mut places);
     let mut storage = LentStorage::new(&mut segments);
-    let mut host = TableHost::new(&rows);
+    let mut host = ByteTable::new(setting.rows);
     let answer = stroke_with_storage(
         job.commands.as_slice(),
         job.style,
@@ -49,5 +89,5 @@ fn replay_job(heap: Global, setting: Setting, job: &Job) -> Result<Vec<Line>, Al
         &mut storage,
         &mut host,
     );
-    drawn_lines(heap, &list, answer)
+    print_drawn(writer, list.finish(), answer)
 }

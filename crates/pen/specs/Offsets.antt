@@ -1,5 +1,5 @@
 -- A segment moved sideways by the radius.
-use Rattle.std.specs.Prelude.{Bool, cond, from_bits, Float}
+use Rattle.std.specs.Prelude.{◌≡◌, Bool, cond, from_bits, Float}
 use Rattle.std.specs.Float.{binary32}
 use Rattle.numbers.specs.Arithmetic.{◌⊕◌, ◌⊗◌, ◌⊘◌, root, zero, one}
 use Rattle.path.specs.declared.geometry.Vector.{Vector}
@@ -65,3 +65,9 @@ abbrev pub offset_of : Segment → Float → OffsetSegment
 offset_of (Line i l) r = offset_line i l r
 offset_of (Curve i k) r = offset_curve i k r
 offset_of (End closed) r = offset_end (End closed)
+
+-- A moved line or curve goes from a point to another.
+abbrev pub GoesBetween : Vector → Vector → Segment → Type 0
+GoesBetween start end (Line i l) = (l.a ≡ start) × (l.b ≡ end)
+GoesBetween start end (Curve i k) = (k.a ≡ start) × (k.d ≡ end)
+GoesBetween start end (End closed) = Unit {0}

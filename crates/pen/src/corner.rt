@@ -1,5 +1,6 @@
 ghost use Rattle.std.specs.Prelude.{◌≡◌};
-ghost use Rattle.pen.specs.Corners.{clockwise, turn_dot, half_turn_sine, miter_corner, corner_of, miter_point};
+ghost use Rattle.pen.specs.declared.corner.Corner.TheVariants as corner_is;
+ghost use Rattle.pen.specs.Corners.{clockwise, turn_dot, half_turn_sine, miter_corner, corner_of, miter_point, IsFirstCause, WithinLimit};
 
 use crate::nib::Nib;
 use numbers::sqrt;
@@ -61,8 +62,11 @@ impl Turn {
 
 impl Corner {
     /// What shapes the corner at a turn.
+    #[tactic(auto, using(crate::proofs::Causes::first_cause))]
     pub fn between(nib: Nib, turn: Turn) -> Corner
-        ensures { result ≡ corner_of nib turn }
+        ensures value { result ≡ corner_of nib turn }
+        ensures cause { IsFirstCause nib turn result }
+        ensures limit { result ≡ corner_is.Miter → WithinLimit nib turn }
     {
         if turn.from.nearly_eq(turn.to) {
             return Corner::Meet;

@@ -1,5 +1,5 @@
 ghost use Rattle.std.specs.Prelude.{◌≡◌};
-ghost use Rattle.pen.specs.Offsets.{leg_normal, bent, offset_line, offset_curve, offset_end, offset_of};
+ghost use Rattle.pen.specs.Offsets.{leg_normal, bent, offset_line, offset_curve, offset_end, offset_of, GoesBetween};
 
 use curves::curve::Curve;
 use curves::line::Line;
@@ -25,9 +25,11 @@ pub struct OffsetSegment {
 }
 
 impl OffsetSegment {
+    /// The segment moved; what is moved goes from the start of its side to the end.
     #[inline(always)]
     pub fn new(segment: Segment, radius: f32) -> OffsetSegment
-        ensures { result ≡ offset_of segment radius }
+        ensures value { result ≡ offset_of segment radius }
+        ensures ends { GoesBetween result.start result.end result.segment }
     {
         match segment {
             Segment::Line(id, line) => offset_line(id, line, radius),

@@ -1,3 +1,4 @@
 pub mod Few
 mod Halving
 mod Slicing
+mod Cutting

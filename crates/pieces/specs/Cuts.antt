@@ -1,5 +1,6 @@
 -- Where a curve is cut, and the pieces.
-use Rattle.std.specs.Prelude.{ℕ, suc, zero as zeroⁿ, Bool, cond, ◌&&◌, List, [], ◌∷◌, ◌++◌, filter, flat_map, Float}
+use Rattle.std.specs.Prelude.{ℕ, suc, zero as zeroⁿ, Bool, cond, ◌&&◌, List, [], ◌∷◌, ◌++◌, filter, flat_map, All, AllPairs, T, Float}
+use Rattle.std.specs.Float.{NotNan, ◌<ᶠ◌}
 use Rattle.std.specs.Float.Ieee.{lt}
 use Rattle.numbers.specs.Arithmetic.{zero, one}
 use Rattle.maths.specs.Functions.{Functions}
@@ -18,6 +19,10 @@ all_inside ts = filter inside ts
 
 abbrev pub cuts : Roots → List Float
 cuts r = all_inside r.items
+
+-- Where no root is NaN, each cut is below all later ones; all lie between 0 and 1.
+abbrev pub CutsRise : Roots → Type 0
+CutsRise r = All NotNan r.items → AllPairs ◌<ᶠ◌ (cuts r) × All (λ t. T (inside t)) (cuts r)
 
 -- from the last cut to the next one, and so on to the end
 abbrev pub slices : Curve → Float → List Float → List Curve

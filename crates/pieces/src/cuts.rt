@@ -1,9 +1,9 @@
 ghost use Rattle.std.specs.Prelude.{◌≡◌, ◌+◌, ◌^◌, ◌≤◌, ◌++◌, length};
 ghost use Rattle.maths.specs.Questions.{all_asked};
-ghost use Rattle.curvature.specs.Bends.{bend_questions};
+ghost use Rattle.curvature.specs.Bends.{bends, bend_questions};
 ghost use Rattle.curves.specs.Curves.{two_legs_near, merge_epsilon};
 ghost use Rattle.fixed.specs.Places.{grown};
-ghost use Rattle.pieces.specs.Cuts.{inside, between, cuts, between_cuts, halved, all_halved, cut_up, cut_questions};
+ghost use Rattle.pieces.specs.Cuts.{inside, between, cuts, between_cuts, halved, all_halved, cut_up, cut_questions, CutsRise};
 
 use crate::pieces::{Pieces, none};
 use curvature::bend::max_curvature;
@@ -18,6 +18,7 @@ pub fn split_at_max_curvature<K: MathsHost>(curve: Curve, host: &mut K) -> Fixed
     ensures answer { result.items ≡ between_cuts (K.acts.functions host.old) curve }
     ensures host { host.new ≡ all_asked K.acts.asked host.old (bend_questions (K.acts.functions host.old) curve) }
     ensures few { (1 ≤ length result.items) × (length result.items ≤ 4) }
+    ensures rising { CutsRise (bends (K.acts.functions host.old) curve) }
 {
     cut_at(curve, max_curvature(curve, host))
 }

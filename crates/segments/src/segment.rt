@@ -36,9 +36,10 @@ impl Segment {
         }
     }
 
-    /// The segment run through the other way; an end is itself.
+    /// The segment run through the other way; an end is itself. Twice, and it is the segment again.
     pub fn reverse(self) -> Segment
-        ensures { result ≡ segment_reverse self }
+        ensures value { result ≡ segment_reverse self }
+        ensures back { segment_reverse result ≡ self }
     {
         match self {
             Segment::Line(id, line) => Segment::Line(id, line.reverse()),

@@ -18,9 +18,13 @@ mod lone_arcs;
 #[cfg(test)]
 mod piles;
 #[cfg(test)]
+mod printed;
+#[cfg(test)]
 mod roots;
 #[cfg(test)]
 mod storages;
+#[cfg(test)]
+mod streams;
 #[cfg(test)]
 mod strokes;
 #[cfg(test)]

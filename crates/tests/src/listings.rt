@@ -1,19 +1,13 @@
-use job::whole::Job;
+use crate::printed::slashed;
 use lines::listing::listing;
-use path::command::Command;
-use std::alloc::{AllocError, Global};
+use std::alloc::Global;
+use std::io;
 use std::test::Fail;
 
-fn text(heap: Global, bytes: &[u8]) -> Result<String, AllocError> {
-    let mut commands = [Command::Close; 8];
-    let mut dashes = [0.0; 4];
-    let mut job = Job::new(&mut commands, &mut dashes);
-    let mut text = String::new(heap);
-    for line in listing(heap, bytes, &mut job)? {
-        text.push_str(line.to_string(heap)?.as_str())?;
-        text.push('/')?;
-    }
-    Ok(text)
+fn text(heap: Global, mut bytes: &[u8]) -> io::Result<String> {
+    let mut printed = Vec::new(heap);
+    listing(&mut bytes, &mut printed)?;
+    Ok(slashed(heap, &printed)?)
 }
 
 #[test]
@@ -58,6 +52,17 @@ fn later_letters(rt: HostRuntime) -> Result<(), Fail> {
 #[test]
 fn refusals(rt: HostRuntime) -> Result<(), Fail> {
     assert_eq!(rt; text(rt.alloc(), b"ZZ?")?.as_str(), "! 10 2 0/");
-    assert_eq!(rt; text(rt.alloc(), b"ZZZZZZZZZ")?.as_str(), "! 13 8 0/");
+    assert_eq!(rt; text(rt.alloc(), &[b'Z'; 513])?.as_str(), "! 13 512 0/");
+    Ok(())
+}
+
+// What comes after the first 8,192 bytes is left to the reader.
+#[test]
+fn later_bytes(rt: HostRuntime) -> Result<(), Fail> {
+    let bytes = [b'Z'; 8200];
+    let mut rest: &[u8] = &bytes;
+    let mut printed = Vec::new(rt.alloc());
+    listing(&mut rest, &mut printed)?;
+    assert_eq!(rt; rest.len(), 8);
     Ok(())
 }

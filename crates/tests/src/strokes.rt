@@ -1,23 +1,23 @@
-use job::whole::Job;
+use crate::printed::slashed;
 use layers::bounds::Bounds;
 use layers::shifted::Shifted;
 use lent::front;
-use lines::line::Line;
 use maths::host::MathsHost;
 use maths::series::SeriesHost;
 use maths::table::TableHost;
-use outlining::drawn::drawn_lines;
+use outlining::drawn::print_drawn;
 use outlining::outline::outline;
-use outlining::replay::replay;
+use outlining::replay::replay_setting;
 use outlining::setting::{Setting, Unfit};
 use path::command::Command;
 use path::geometry::{Point, Vector};
-use path::refusal::{Reason, Refusal};
+use path::refusal::Refusal;
 use path::style::{Cap, Join, Stroke};
 use segments::segment::Segment;
 use sinks::record_list::RecordList;
 use sinks::sink::{ReadableSink, Sink};
 use std::alloc::{AllocError, Global};
+use std::io;
 use std::test::Fail;
 use storage::lent_storage::LentStorage;
 use storage::storage::Storage;
@@ -103,14 +103,15 @@ fn bevelled(width: f32, shape: Cap) -> Stroke {
     }
 }
 
-// Printed lines one after the other.
-fn text(heap: Global, lines: &[Line]) -> Result<String, AllocError> {
-    let mut text = String::new(heap);
-    for line in lines {
-        text.push_str(line.to_string(heap)?.as_str())?;
-        text.push('/')?;
-    }
-    Ok(text)
+// What is printed of a stroke that left these commands.
+fn left(
+    heap: Global,
+    commands: &[Command],
+    answer: Result<Tally, Refusal>,
+) -> io::Result<String> {
+    let mut printed = Vec::new(heap);
+    print_drawn(&mut printed, commands, answer)?;
+    Ok(slashed(heap, &printed)?)
 }
 
 // A text that is two in a row.
@@ -122,13 +123,19 @@ fn both(heap: Global, first: &str, second: &str) -> Result<String, AllocError> {
 }
 
 // What a plain stroke of width 2 leaves in so many places, and what it answers.
-fn sent_into(heap: Global, commands: &[Command], places: usize) -> Result<Vec<Line>, AllocError> {
+fn sent_into(
+    heap: Global,
+    commands: &[Command],
+    places: usize,
+) -> Result<(Vec<Command>, Result<Tally, Refusal>), AllocError> {
     let mut places = vec![in heap; Command::Close; places]?;
     let mut list = RecordList::new(&mut places);
     let style = bevelled(2.0, Cap::Butt);
     let mut host = SeriesHost::new();
     let answer = stroke_into(commands, style, &[], MOST_STEPS, &mut list, &mut host);
-    drawn_lines(heap, &list, answer)
+    let mut sent = Vec::new(heap);
+    sent.extend_from_slice(list.finish())?;
+    Ok((sent, answer))
 }
 
 // The same in words, of any stroke.
@@ -139,11 +146,11 @@ fn drawn<K: MathsHost>(
     dashes: &[f32],
     budget: u32,
     host: &mut K,
-) -> Result<String, AllocError> {
+) -> io::Result<String> {
     let mut places = [Command::Close; 64];
     let mut list = RecordList::new(&mut places);
     let answer = stroke_into(commands, style, dashes, budget, &mut list, host);
-    text(heap, &drawn_lines(heap, &list, answer)?)
+    left(heap, list.finish(), answer)
 }
 
 // What a stroke answers, and whether a list and a storage that held something are as they were.
@@ -374,9 +381,9 @@ fn few_places(rt: HostRuntime) -> Result<(), Fail> {
         begin(0.0, 32.0),
         line(8.0, 32.0),
     ];
-    let whole = sent_into(heap, &path, 18)?;
+    let (whole, answer) = sent_into(heap, &path, 18)?;
     assert_eq!(rt;
-        text(heap, &whole)?.as_str(),
+        left(heap, &whole, answer)?.as_str(),
         "M 00000000 BF800000/L 41000000 BF800000/L 41000000 3F800000/\
 L 00000000 3F800000/L 00000000 BF800000/Z/M 00000000 41700000/\
 L 41000000 41700000/L 41000000 41880000/L 00000000 41880000/\
@@ -385,17 +392,10 @@ L 41000000 42040000/L 00000000 42040000/L 00000000 41F80000/Z/= 18 0/"
     );
     for runs in 1..4 {
         for places in 0..6 * runs {
-            let lines = sent_into(heap, front(&path, 2 * runs), places)?;
+            let (sent, answer) = sent_into(heap, front(&path, 2 * runs), places)?;
             let place = (places / 6 + 1).min(runs - 1);
-            assert_eq!(rt; front(&lines, places), front(&whole, places));
-            assert_eq!(rt;
-                lines.last().copied(),
-                Some(Line::Refused(Refusal {
-                    reason: Reason::SinkRefused,
-                    place,
-                    sent: places as u64,
-                }))
-            );
+            assert_eq!(rt; sent.as_slice(), front(&whole, places));
+            assert_eq!(rt; told(answer), Err((8, place, places as u64)));
         }
     }
     Ok(())
@@ -502,23 +502,22 @@ fn through_piles(rt: HostRuntime) -> Result<(), Fail> {
     let below = pile.into_inner();
     let corners = below.bounds().map(|b| (b.low, b.high));
     assert_eq!(rt; corners, Some((at(10.0, -2.0), at(22.0, 0.0))));
-    let lines = drawn_lines(heap, &below.into_inner(), answer)?;
-    assert_eq!(rt; text(heap, &lines)?.as_str(), MOVED_DASHES);
+    let list = below.into_inner();
+    assert_eq!(rt; left(heap, list.finish(), answer)?.as_str(), MOVED_DASHES);
     let mut places = [Command::Close; 12];
     let mut pile = Bounds::new(Shifted::new(RecordList::new(&mut places), by));
     let answer = stroke_into(&path, style, &[4.0], MOST_STEPS, &mut pile, &mut host);
     let corners = pile.bounds().map(|b| (b.low, b.high));
     assert_eq!(rt; corners, Some((at(0.0, -1.0), at(12.0, 1.0))));
-    let lines = drawn_lines(heap, &pile.into_inner().into_inner(), answer)?;
-    assert_eq!(rt; text(heap, &lines)?.as_str(), MOVED_DASHES);
+    let list = pile.into_inner().into_inner();
+    assert_eq!(rt; left(heap, list.finish(), answer)?.as_str(), MOVED_DASHES);
     Ok(())
 }
 
-fn outlined(heap: Global, bytes: &[u8]) -> Result<Vec<Line>, AllocError> {
-    let mut commands = vec![in heap; Command::Close; 512]?;
-    let mut dashes = [0.0; 32];
-    let mut job = Job::new(&mut commands, &mut dashes);
-    outline(heap, bytes, &mut job)
+fn outlined(heap: Global, mut bytes: &[u8]) -> io::Result<String> {
+    let mut printed = Vec::new(heap);
+    outline(&mut bytes, &mut printed)?;
+    Ok(slashed(heap, &printed)?)
 }
 
 // Jobs as `outline` has them: the last one sends all that its 1,024 places take.
@@ -527,23 +526,14 @@ fn outlined_jobs(rt: HostRuntime) -> Result<(), Fail> {
     let heap = rt.alloc();
     let line = b"W\x40\x00\x00\x00J\x00\
 M\x00\x00\x00\x00\x00\x00\x00\x00LA\x00\x00\x00\x00\x00\x00\x00";
-    assert_eq!(rt;
-        text(heap, &outlined(heap, line)?)?,
-        both(heap, FLAT, "= 6 0/")?
-    );
-    assert_eq!(rt; text(heap, &outlined(heap, b"")?)?.as_str(), "= 0 0/");
-    assert_eq!(rt; text(heap, &outlined(heap, b"ZZX")?)?.as_str(), "! 10 2 0/");
+    assert_eq!(rt; outlined(heap, line)?, both(heap, FLAT, "= 6 0/")?);
+    assert_eq!(rt; outlined(heap, b"")?.as_str(), "= 0 0/");
+    assert_eq!(rt; outlined(heap, b"ZZX")?.as_str(), "! 10 2 0/");
     let path = [b'Z'; 513];
-    assert_eq!(rt;
-        text(heap, &outlined(heap, &path)?)?.as_str(),
-        "! 13 512 0/"
-    );
+    assert_eq!(rt; outlined(heap, &path)?.as_str(), "! 13 512 0/");
     let lines = outlined(heap, front(&path, 512))?;
-    assert_eq!(rt; lines.len(), 1025);
-    assert_eq!(rt;
-        text(heap, lines.split_at(1024).1)?.as_str(),
-        "! 8 205 1024/"
-    );
+    assert_eq!(rt; lines.chars().filter(|c| *c == '/').count(), 1025);
+    assert!(rt; lines.as_str().ends_with("/! 8 205 1024/"));
     Ok(())
 }
 
@@ -587,11 +577,10 @@ const ROWS: &[u8] = b"\
 \x01\x40\x49\x0f\xdb\xb3\xbb\xbd\x2e\x02\x40\x49\x0f\xdb\xbf\x80\x00\x00\
 \x01\x40\x96\xcb\xe4\xbf\x80\x00\x00\x02\x40\x96\xcb\xe4\x32\x4c\xde\x2e";
 
-fn replayed(heap: Global, setting: Setting) -> Result<String, AllocError> {
-    let mut commands = [Command::Close; 8];
-    let mut dashes = [0.0; 8];
-    let mut job = Job::new(&mut commands, &mut dashes);
-    text(heap, &replay(heap, setting, &mut job)?)
+fn replayed(heap: Global, setting: Setting) -> io::Result<String> {
+    let mut printed = Vec::new(heap);
+    replay_setting(heap, &mut printed, setting)?;
+    Ok(slashed(heap, &printed)?)
 }
 
 // Jobs as `replay` has them, with storages, lists and budgets that are just enough and too small.

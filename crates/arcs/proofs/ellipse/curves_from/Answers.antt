@@ -2,10 +2,27 @@ use Rattle.std.proofs.Common.{rules, ◌≡◌, ◌<◌, [], ◌∷◌, ◌++◌
 use Rattle.std.proofs.lemmas.Bool.{cond_below}
 use Rattle.numbers.specs.Arithmetic.{◌⊕◌}
 use Rattle.maths.specs.Functions.{Functions}
+use Rattle.maths.proofs.Asking.{asked_same}
 use Rattle.fixed.specs.Places.{grown}
-use Rattle.arcs.specs.Curves.{curve_at}
-use Rattle.arcs.proofs.Round.{curves_more, questions_more}
+use Rattle.arcs.specs.Curves.{curve_at, curve_questions}
+use Rattle.arcs.proofs.Round.{curves_first, questions_first, curves_more, questions_more}
 use Rattle.arcs.proofs.ellipse.curves_from.Goals as goal
+
+pub loop-i-init : goal.loop-i-init
+loop-i-init g c =
+    let n = c.args.sweep.count in
+    let e = c.args.ellipse in
+    let t = c.args.sweep.start in
+    let each = c.args.sweep.each in
+    let F = g.K.MathsHost.acts.functions c.args.host.now in
+    let some : 0 < n = omega (arith, c.requires) in
+    let first : c.few-curves.result.items ≡ curve_at F e t (t ⊕ each) ∷ [] = ap (λ p. p.items) c.few-curves.ensures ∙ ap (λ x. x ∷ []) c.first_curve-curve.ensures.answer in
+    record {
+      same = ap g.K.MathsHost.acts.functions c.first_curve-curve.ensures.host ∙ asked_same g.K.MathsHost.acts g.met.K.MathsHost.same c.args.host.now (curve_questions t (t ⊕ each));
+      drawn = curves_first n F e t each some first;
+      answered = questions_first g.K.MathsHost.acts.asked n t each c.args.host.now some c.first_curve-curve.ensures.host;
+      room = ap (λ p. length p.spare) c.few-curves.ensures;
+    }
 
 pub loop-i-preserved : goal.loop-i-preserved
 loop-i-preserved g c =
