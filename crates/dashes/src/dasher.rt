@@ -9,7 +9,7 @@ mod walk;
 
 /// Where a dash lies on a run: its first and its last segment with a time on each. The first one is
 /// counted from the end of the run where it is below 0, so that -1 is the last segment.
-#[derive(Clone, Copy, Debug, PartialEq)]
+#[derive(Clone, Copy, PartialEq)]
 pub struct Range {
     pub start: isize,
     pub end: isize,
@@ -19,7 +19,7 @@ pub struct Range {
 
 /// What a call of `next` answers: that the walk is over, that it goes on, a dash to be drawn, or that
 /// the whole run is one dash.
-#[derive(Clone, Copy, Debug, PartialEq)]
+#[derive(Clone, Copy, PartialEq)]
 pub enum DashOp {
     Done,
     Continue,
