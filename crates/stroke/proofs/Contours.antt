@@ -1,5 +1,5 @@
 -- Every outline is a contour: lines and curves between a move and a close.
-use Rattle.std.proofs.Common.{◌≡◌, ℕ, zero, suc, Bool, true, false, ◌==◌, List, [], ◌∷◌, ◌++◌, map, sym, refl, ap, ◌∙◌, subst}
+use Rattle.std.proofs.Common.{◌≡◌, ℕ, zero, suc, Bool, true, false, ◌&&◌, List, [], ◌∷◌, ◌++◌, map, sym, refl, ap, ◌∙◌, subst}
 use lib.Ieee.{Float, neg}
 use Rattle.std.proofs.lemmas.Bool.{cond_both}
 use Rattle.numbers.specs.Arithmetic.{◌⊕◌, ◌⊗◌, one}
@@ -27,8 +27,8 @@ use Rattle.arcs.specs.Curves.{all_curves, no_chord, turned_of, centred_of, round
 use Rattle.joins.specs.Joins.{shaped, shaped_questions, split_corner, half_circle}
 use Rattle.joins.specs.Caps.{cap_commands, cap_questions}
 use Rattle.segments.specs.Lists.{Each, each_append}
-use Rattle.stroke.specs.Events.{Event, asks, sends, asked_then_sent}
-use Rattle.stroke.specs.Outlines.{turn_between, emitted, join_events, split_events, cap_events, forward, one_forward, back_events, backward, last_side, end_cap_events, cross_events, start_cap_events, finish_events, open_ring, closed_ring, dash_ring, ring_of, across}
+use Rattle.stroke.specs.Events.{Event, asks, sends, Plan}
+use Rattle.stroke.specs.Outlines.{turn_between, emitted, join_events, split_events, cap_events, same_mark, between, one_onward, onward, last_side, cross_events, finish_events, capped_ring, closed_ring, across}
 use Rattle.stroke.specs.Ranges.{dot_around}
 use Rattle.stroke.specs.Contours.{row, Closing, Contour}
 
@@ -48,7 +48,7 @@ unfolding row
 row_asks [] es = refl
 row_asks (q ∷ qs) es = row_asks qs es
 
-pub row_both : (qs : List Question) (cs : List Command) → row (asked_then_sent qs cs) ≡ cs
+pub row_both : (qs : List Question) (cs : List Command) → row (map asks qs ++ map sends cs) ≡ cs
 row_both qs cs = row_asks qs (map sends cs) ∙ row_sends cs
 
 -- a line or a curve
@@ -73,7 +73,7 @@ Closes es = Closing (map kind (row es))
 pub sides_both : (es fs : List Event) → SidesSent es → SidesSent fs → SidesSent (es ++ fs)
 sides_both es fs h k = subst Sides (sym (row_append es fs)) (each_append IsSide (row es) (row fs) h k)
 
-pub sides_sent : (qs : List Question) (cs : List Command) → Sides cs → SidesSent (asked_then_sent qs cs)
+pub sides_sent : (qs : List Question) (cs : List Command) → Sides cs → SidesSent (map asks qs ++ map sends cs)
 sides_sent qs cs h = subst Sides (sym (row_both qs cs)) h
 
 closing_after : (cs ds : List Command) → Sides cs → Closing (map kind ds) → Closing (map kind (cs ++ ds))
@@ -106,92 +106,84 @@ shaped_sides F NegativeDot nib t = (tt, tt)
 shaped_sides F PastLimit nib t = (tt, tt)
 shaped_sides F Miter nib t = (tt, (tt, tt))
 
-pub join_sides : (F : Functions) (nib : Nib) (t : Turn) → SidesSent (join_events F nib t)
-join_sides F nib t = sides_sent (shaped_questions F (corner_of nib t) nib t) (shaped F (corner_of nib t) nib t) (shaped_sides F (corner_of nib t) nib t)
-
-pub split_sides : (F : Functions) (nib : Nib) (t : Turn) → SidesSent (split_events F nib t)
-split_sides F nib t = sides_sent (shaped_questions F (split_corner t) nib t) (shaped F (split_corner t) nib t) (shaped_sides F (split_corner t) nib t)
-
-pub back_sides : (F : Functions) (nib : Nib) (o p : OffsetSegment) → SidesSent (back_events F nib o p)
-back_sides F nib o p = cond_both (p.id.mark == o.id.mark) (split_events F nib (turn_between o p)) (join_events F nib (turn_between o p)) SidesSent (λ _. split_sides F nib (turn_between o p)) (λ _. join_sides F nib (turn_between o p))
-
 capped_sides : (F : Functions) (shape : Cap) (r : Float) (t : Turn) → Sides (cap_commands F shape r t)
 capped_sides F cap-is.Butt r t = (tt, tt)
 capped_sides F cap-is.Square r t = (tt, (tt, (tt, tt)))
 capped_sides F cap-is.Round r t = arc_sides F false (half_circle r t)
 
-pub cap_sides : (F : Functions) (shape : Cap) (r : Float) (t : Turn) → SidesSent (cap_events F shape r t)
-cap_sides F shape r t = sides_sent (cap_questions F shape r t) (cap_commands F shape r t) (capped_sides F shape r t)
+end_closes : Closes (sends Close ∷ [])
+unfolding row
+end_closes = refl
 
--- a side, and all sides one after the other
+begun : (p : Vector) (es : List Event) → Closes es → Contour (row (sends (MoveTo p) ∷ es))
+unfolding row
+begun p es h = record { rest = map kind (row es); begins = refl; ends = h }
+
+line_closes : (p : Vector) (es : List Event) → Closes es → Closes (sends (LineTo p) ∷ es)
+unfolding row
+line_closes p es h = h
+
+-- a side
 pub emitted_sides : (s : Segment) → SidesSent (map sends (emitted s))
 unfolding row
 emitted_sides (Line i l) = (tt, tt)
 emitted_sides (Curve i k) = (tt, tt)
 emitted_sides (End closed) = tt
 
-pub forward_sides : (F : Functions) (nib : Nib) (o : OffsetSegment) (ps : List OffsetSegment) → SidesSent (forward F nib o ps)
-unfolding forward row
-forward_sides F nib o [] = tt
-forward_sides F nib o (p ∷ ps) = sides_both (join_events F nib (turn_between o p)) _ (join_sides F nib (turn_between o p)) (sides_both (map sends (emitted p.segment)) (forward F nib p ps) (emitted_sides p.segment) (forward_sides F nib p ps))
+-- the parts of an outline, by functions and a nib
+module _ (F : Functions) (nib : Nib) where
+  join_sides : (t : Turn) → SidesSent (join_events t F nib)
+  join_sides t = sides_sent (shaped_questions F (corner_of nib t) nib t) (shaped F (corner_of nib t) nib t) (shaped_sides F (corner_of nib t) nib t)
 
-pub backward_sides : (F : Functions) (nib : Nib) (o : OffsetSegment) (ps : List OffsetSegment) → SidesSent (backward F nib o ps)
-unfolding backward row
-backward_sides F nib o [] = tt
-backward_sides F nib o (p ∷ ps) = sides_both (back_events F nib o p) _ (back_sides F nib o p) (sides_both (map sends (emitted p.segment)) (backward F nib p ps) (emitted_sides p.segment) (backward_sides F nib p ps))
+  split_sides : (t : Turn) → SidesSent (split_events t F nib)
+  split_sides t = sides_sent (shaped_questions F (split_corner t) nib t) (shaped F (split_corner t) nib t) (shaped_sides F (split_corner t) nib t)
 
--- the ends of rings
-end_closes : Closes (sends Close ∷ [])
-unfolding row
-end_closes = refl
+  between_sides : (split : Bool) (o p : OffsetSegment) → SidesSent (between split o p F nib)
+  between_sides split o p =
+      let t = turn_between o p in
+      cond_both (split && same_mark o p) (split_events t) (join_events t) (λ (E : Plan). SidesSent (E F nib)) (λ _. split_sides t) (λ _. join_sides t)
 
-finish_closes : (F : Functions) (nib : Nib) (o p : OffsetSegment) → Closes (finish_events F nib o p)
-finish_closes F nib o p = closes_after (start_cap_events F nib o p) (sends Close ∷ []) (cap_sides F nib.start_cap nib.radius (turn_between o p)) end_closes
+  cap_sides : (shape : Cap) (t : Turn) → SidesSent (cap_events shape t F nib)
+  cap_sides shape t = sides_sent (cap_questions F shape nib.radius t) (cap_commands F shape nib.radius t) (capped_sides F shape nib.radius t)
 
-cross_sides : (F : Functions) (nib : Nib) (o p : OffsetSegment) → SidesSent (cross_events F nib o p)
-cross_sides F nib o p = sides_both (end_cap_events F nib o p) (map sends (emitted p.segment)) (cap_sides F nib.end_cap nib.radius (turn_between o p)) (emitted_sides p.segment)
+  one_sides : (split : Bool) (o p : OffsetSegment) → SidesSent (one_onward split o p F nib)
+  unfolding one_onward
+  one_sides split o p = sides_both (between split o p F nib) (map sends (emitted p.segment)) (between_sides split o p) (emitted_sides p.segment)
 
-back_closes : (F : Functions) (nib : Nib) (end p : OffsetSegment) (ps : List OffsetSegment) (o : OffsetSegment) → Closes (cross_events F nib end p ++ (backward F nib p ps ++ finish_events F nib (last_side p ps) o))
-back_closes F nib end p ps o =
-    closes_after (cross_events F nib end p) _ (cross_sides F nib end p) (closes_after (backward F nib p ps) (finish_events F nib (last_side p ps) o) (backward_sides F nib p ps) (finish_closes F nib (last_side p ps) o))
+  -- all sides one after the other
+  onward_sides : (split : Bool) (o : OffsetSegment) (ps : List OffsetSegment) → SidesSent (onward split o ps F nib)
+  unfolding onward row
+  onward_sides split o [] = tt
+  onward_sides split o (p ∷ ps) = sides_both (one_onward split o p F nib) (onward split p ps F nib) (one_sides split o p) (onward_sides split p ps)
 
-begun : (p : Vector) (es : List Event) → Closes es → Contour (row (sends (MoveTo p) ∷ es))
-unfolding row
-begun p es h = record { rest = map kind (row es); begins = refl; ends = h }
+  -- the ends of rings
+  cross_sides : (o p : OffsetSegment) → SidesSent (cross_events o p F nib)
+  cross_sides o p = sides_both (cap_events nib.end_cap (turn_between o p) F nib) (map sends (emitted p.segment)) (cap_sides nib.end_cap (turn_between o p)) (emitted_sides p.segment)
 
--- the rings
-open_contour : (F : Functions) (nib : Nib) (o : OffsetSegment) (os : List OffsetSegment) (p : OffsetSegment) (ps : List OffsetSegment) → Contour (row (open_ring F nib o os p ps))
-open_contour F nib o os p ps =
-    begun o.start _ (closes_after (map sends (emitted o.segment)) _ (emitted_sides o.segment) (closes_after (forward F nib o os) _ (forward_sides F nib o os) (back_closes F nib (last_side o os) p ps o)))
+  finish_closes : (o p : OffsetSegment) → Closes (finish_events o p F nib)
+  finish_closes o p = closes_after (cap_events nib.start_cap (turn_between o p) F nib) (sends Close ∷ []) (cap_sides nib.start_cap (turn_between o p)) end_closes
 
-pub dash_contour : (F : Functions) (nib : Nib) (o : OffsetSegment) (os : List OffsetSegment) (p : OffsetSegment) (ps : List OffsetSegment) → Contour (row (dash_ring F nib o os p ps))
-dash_contour F nib o os p ps =
-    begun o.start _ (closes_after (map sends (emitted o.segment)) _ (emitted_sides o.segment) (closes_after (backward F nib o os) _ (backward_sides F nib o os) (back_closes F nib (last_side o os) p ps o)))
+  -- the rings
+  pub capped_contour : (split : Bool) (o : OffsetSegment) (os : List OffsetSegment) (p : OffsetSegment) (ps : List OffsetSegment) → Contour (row (capped_ring split o os p ps F nib))
+  capped_contour split o os p ps =
+      begun o.start _ (closes_after (map sends (emitted o.segment)) _ (emitted_sides o.segment)
+      (closes_after (onward split o os F nib) _ (onward_sides split o os)
+      (closes_after (cross_events (last_side o os) p F nib) _ (cross_sides (last_side o os) p)
+      (closes_after (onward true p ps F nib) (finish_events (last_side p ps) o F nib) (onward_sides true p ps) (finish_closes (last_side p ps) o)))))
 
-line_closes : (p : Vector) (es : List Event) → Closes es → Closes (sends (LineTo p) ∷ es)
-unfolding row
-line_closes p es h = h
+  pub closed_contour : (o : OffsetSegment) (os : List OffsetSegment) (p : OffsetSegment) (ps : List OffsetSegment) → Contour (row (closed_ring o os p ps F nib))
+  closed_contour o os p ps =
+      let end = last_side o os in
+      let back = last_side p ps in
+      begun end.end _ (closes_after (onward false end (o ∷ os) F nib) _ (onward_sides false end (o ∷ os))
+      (line_closes back.end _ (closes_after (one_onward false back p F nib) _ (one_sides false back p)
+      (closes_after (onward true p ps F nib) (sends Close ∷ []) (onward_sides true p ps) end_closes))))
 
-one_sides : (F : Functions) (nib : Nib) (o p : OffsetSegment) → SidesSent (one_forward F nib o p)
-one_sides F nib o p = sides_both (join_events F nib (turn_between o p)) (map sends (emitted p.segment)) (join_sides F nib (turn_between o p)) (emitted_sides p.segment)
-
-closed_contour : (F : Functions) (nib : Nib) (o : OffsetSegment) (os : List OffsetSegment) (p : OffsetSegment) (ps : List OffsetSegment) → Contour (row (closed_ring F nib o os p ps))
-closed_contour F nib o os p ps =
-    let end = last_side o os in
-    let back = last_side p ps in
-    begun end.end _ (closes_after (forward F nib end (o ∷ os)) _ (forward_sides F nib end (o ∷ os)) (line_closes back.end _
-    (closes_after (one_forward F nib back p) _ (one_sides F nib back p) (closes_after (backward F nib p ps) (sends Close ∷ []) (backward_sides F nib p ps) end_closes))))
-
-pub ring_contour : (closed : Bool) (F : Functions) (nib : Nib) (o : OffsetSegment) (os : List OffsetSegment) (p : OffsetSegment) (ps : List OffsetSegment) → Contour (row (ring_of closed F nib o os p ps))
-ring_contour true F nib o os p ps = closed_contour F nib o os p ps
-ring_contour false F nib o os p ps = open_contour F nib o os p ps
-
--- a dash of length 0
-pub dot_contour : (F : Functions) (nib : Nib) (o : OffsetSegment) → Contour (row (dot_around F nib o))
-dot_contour F nib o =
-    let q = difference o.start (multiple o.start_normal (two ⊗ nib.radius)) in
-    let there = across o.start q o.start_normal in
-    let back = across q o.start (multiple o.start_normal (neg one)) in
-    let end = cap_events F nib.end_cap nib.radius there in
-    let start = cap_events F nib.start_cap nib.radius back in
-    begun o.start _ (closes_after (end ++ start) (sends Close ∷ []) (sides_both end start (cap_sides F nib.end_cap nib.radius there) (cap_sides F nib.start_cap nib.radius back)) end_closes)
+  -- a dash of length 0
+  pub dot_contour : (o : OffsetSegment) → Contour (row (dot_around o F nib))
+  dot_contour o =
+      let q = difference o.start (multiple o.start_normal (two ⊗ nib.radius)) in
+      let end = cap_events nib.end_cap (across o.start q o.start_normal) F nib in
+      let start = cap_events nib.start_cap (across q o.start (multiple o.start_normal (neg one))) F nib in
+      begun o.start _ (closes_after (end ++ start) (sends Close ∷ [])
+      (sides_both end start (cap_sides nib.end_cap (across o.start q o.start_normal)) (cap_sides nib.start_cap (across q o.start (multiple o.start_normal (neg one))))) end_closes)

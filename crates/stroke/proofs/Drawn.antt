@@ -1,106 +1,104 @@
--- What an outliner has drawn, step by step.
-use Rattle.std.proofs.Common.{◌≡◌, ◌+◌, Bool, true, false, cond, List, [], ◌∷◌, ◌++◌, map, is_ok, is_err, Result, sym, refl, ap, ◌∙◌}
-use lib.Ieee.{Float}
-use Rattle.std.proofs.lemmas.Bool.{cond_both}
-use Rattle.maths.specs.Functions.{Functions, HostActs}
+-- Drawing, part by part.
+use Rattle.std.proofs.Common.{◌≡◌, ℕ, ◌+◌, ◌<◌, ◌≤◌, length, take, drop, get_or, map, is_ok, Ok, Result, false, cond, List, [], ◌∷◌, ◌++◌, refl, ap, ◌∙◌, sym}
+use Rattle.std.proofs.lemmas.List.{take_more, map-append, take-append-drop, take_all}
 use Rattle.maths.specs.Questions.{Question, all_asked}
-use Rattle.maths.specs.declared.host.Function.{Function}
 use Rattle.path.specs.declared.command.Command.{Command}
-use Rattle.pen.specs.declared.nib.Nib.{Nib}
-use Rattle.sinks.specs.Meaning.{takes, verdict, after, SinkActs}
 use Rattle.sinks.specs.declared.sink.Refused.{Refused}
-use Rattle.stroke.specs.declared.outliner.Outliner.{Outliner}
-use Rattle.stroke.specs.Events.{Event, asks, sends, Drawing, drawing, asked_then_sent, then, play}
-use Rattle.stroke.specs.Outliners.{Fits, stage, Same, Drew}
-use Rattle.stroke.proofs.Playing.{play_append, play_asks, sent_one, stops, play_on, part_fits, same_fits, made_taken}
-
-pub same_self : {S K : Type 0} (a : Outliner S K) → Same a a
-same_self a = record { sink = refl; host = refl; nib = refl }
-
-same_then : {S K : Type 0} {a b c : Outliner S K} → Same a b → Same b c → Same a c
-same_then p q = record { sink = q.sink ∙ p.sink; host = q.host ∙ p.host; nib = q.nib ∙ p.nib }
-
--- from an outliner that is to draw all events, to one that has these events left
-pub record Leads {S K : Type 0} (sinks : SinkActs S) (hosts : HostActs K) (a : Outliner S K) (all : List Event) (b : Outliner S K) (left : List Event) : Type 0 where
-  pub ends : play sinks hosts left (stage b true) ≡ play sinks hosts all (stage a true)
-  pub same : Same a b
-  pub fits : Fits b left
+use Rattle.maths.specs.Functions.{Functions, HostActs}
+use Rattle.pen.specs.declared.nib.Nib.{Nib}
+use Rattle.pen.specs.declared.offset.OffsetSegment.{OffsetSegment}
+use Rattle.sinks.specs.Meaning.{SinkActs, verdict, after}
+use Rattle.stroke.specs.Events.{Event, asks, sends, Plan, ◌⨾◌, commands, by_nib, asked_then_sent, Drawing, Standing, one, go_on, play, draw}
 
 module _ {S K : Type 0} (sinks : SinkActs S) (hosts : HostActs K) where
-  pub starts : (a : Outliner S K) (all : List Event) → Fits a all → Leads sinks hosts a all a all
-  starts a all fits = record { ends = refl; same = same_self a; fits = fits }
-
-  -- some of the events that are left are drawn
-  pub goes_on : (es rest : List Event) {a b c : Outliner S K} {all left : List Event} → left ≡ es ++ rest → Leads sinks hosts a all b left → Drew sinks hosts b c es true → Leads sinks hosts a all c rest
-  goes_on es rest {b = b} split l d =
-      let on = play_on sinks hosts es rest (stage b true) split d.played (l.ends, l.fits) in
-      record { ends = on.0; same = same_then l.same d.same; fits = on.1 }
-
-  -- and one of them is refused
-  pub ends_refused : {X Y : Type 0} (r : Result X Y) (es rest : List Event) {a b c : Outliner S K} {all left : List Event} → is_err r ≡ true → left ≡ es ++ rest
-      → Leads sinks hosts a all b left → Drew sinks hosts b c es false → Drew sinks hosts a c all (is_ok r)
-  ends_refused r es rest {b = b} {c = c} refused split l d =
-      let on = play_on sinks hosts es rest (stage b true) split d.played (l.ends, l.fits) in
-      record { played = stops sinks hosts rest c.sink.now c.host.now c.sent r refused on.0; same = same_then l.same d.same }
-
-  -- all that are left are drawn
-  pub ends_with : {a b c : Outliner S K} {all left es : List Event} {going : Bool} → es ≡ left → Leads sinks hosts a all b left → Drew sinks hosts b c es going → Drew sinks hosts a c all going
-  ends_with {b = b} is l d = record { played = d.played ∙ ap (λ (e : List Event). play sinks hosts e (stage b true)) is ∙ l.ends; same = same_then l.same d.same }
-
-  pub drew_none : (a : Outliner S K) {es : List Event} → es ≡ [] → Drew sinks hosts a a es true
+  play_append : (es fs : List Event) (d : Drawing S K) → play sinks hosts (es ++ fs) d ≡ play sinks hosts fs (play sinks hosts es d)
   unfolding play
-  drew_none a none = record { played = sym (ap (λ (e : List Event). play sinks hosts e (stage a true)) none); same = same_self a }
+  play_append [] fs d = refl
+  play_append (e ∷ es) fs d = play_append es fs (go_on sinks hosts e d)
 
-  pub ends_there : {a b : Outliner S K} {all left : List Event} → left ≡ [] → Leads sinks hosts a all b left → Drew sinks hosts a b all true
-  ends_there {b = b} none l = ends_with refl l (drew_none b none)
+  play_stopped : (es : List Event) (d : Drawing S K) → is_ok d.answer ≡ false → play sinks hosts es d ≡ d
+  unfolding play
+  play_stopped [] d is = refl
+  play_stopped (e ∷ es) d is =
+      let same : go_on sinks hosts e d ≡ d = ap (λ b. cond b (one sinks hosts e d) d) is in
+      ap (play sinks hosts es) same ∙ play_stopped es d is
 
-  pub next_fits : (es rest : List Event) {a b : Outliner S K} {all left : List Event} → left ≡ es ++ rest → Leads sinks hosts a all b left → Fits b es
-  next_fits es rest {b = b} split l = part_fits es rest b.sent _ split l.fits
+  -- one part and then another
+  pub draw_next : (E E' : Plan) (d : Standing S K) → draw sinks hosts (E ⨾ E') d ≡ draw sinks hosts E' (draw sinks hosts E d)
+  unfolding draw
+  draw_next E E' d = ap (λ (x : Drawing S K). record d { drawing = x }) (play_append (E d.functions d.nib) (E' d.functions d.nib) d.drawing)
+
+  -- a drawing that has stopped stays as it is
+  pub draw_stopped : (E : Plan) (d : Standing S K) → is_ok d.drawing.answer ≡ false → draw sinks hosts E d ≡ d
+  unfolding draw
+  draw_stopped E d is = ap (λ (x : Drawing S K). record d { drawing = x }) (play_stopped (E d.functions d.nib) d.drawing is)
+
+  pub draw_none : (d : Standing S K) → draw sinks hosts (commands []) d ≡ d
+  unfolding draw play
+  draw_none d = refl
+
+  pub draw_by_nib : (E : Nib → Plan) (d : Standing S K) → draw sinks hosts (by_nib E) d ≡ draw sinks hosts (E d.nib) d
+  unfolding draw
+  draw_by_nib E d = refl
+
+  -- the nib stays
+  pub draw_nib : (E : Plan) (d : Standing S K) → (draw sinks hosts E d).nib ≡ d.nib
+  unfolding draw
+  draw_nib E d = refl
 
   -- one command
-  pub drew_one : (c : Command) (r : Result (Unit {0}) Refused) {a b : Outliner S K} → r ≡ verdict (sinks.meaning a.sink.now) c → b.sink.now ≡ after sinks a.sink.now c → b.host.now ≡ a.host.now
-      → b.sent ≡ cond (is_ok r) (a.sent + 1) a.sent → Same a b → Drew sinks hosts a b (sends c ∷ []) (is_ok r)
-  drew_one c r {a = a} {b = b} answer sink host sent same =
-      let taken = made_taken sinks c a.sink.now r answer in
-      let taking = sink ∙ ap (λ t. cond t (sinks.took a.sink.now c) a.sink.now) (sym taken) in
-      record { played = ap (λ h. drawing b.sink.now h b.sent (is_ok r)) host ∙ sent_one sinks hosts c a.sink.now a.host.now a.sent taking sent taken; same = same }
+  pub draw_send : (c : Command) (d : Standing S K) → d.drawing.answer ≡ Ok tt
+      → draw sinks hosts (commands (c ∷ [])) d ≡ record d { drawing = record d.drawing { sink = after sinks d.drawing.sink c; answer = verdict (sinks.meaning d.drawing.sink) c } }
+  unfolding draw play
+  draw_send c d is = ap (λ (r : Result (Unit {0}) Refused). record d { drawing = cond (is_ok r) (one sinks hosts (sends c) d.drawing) d.drawing }) is
 
-  -- questions asked and then commands sent
-  pub drew_both : (qs : List Question) (cs : List Command) {a b c : Outliner S K} {going : Bool} {row : List Command} → stage b true ≡ drawing a.sink.now (all_asked hosts.asked a.host.now qs) a.sent true → Same a b → row ≡ cs
-      → Drew sinks hosts b c (map sends row) going → Drew sinks hosts a c (asked_then_sent qs cs) going
-  drew_both qs cs {a = a} {b = b} asking same is d = record {
-    played = d.played ∙ ap (play sinks hosts (map sends _)) (asking ∙ sym (play_asks sinks hosts qs a.sink.now a.host.now a.sent))
-        ∙ ap (λ (e : List Command). play sinks hosts (map sends e) (play sinks hosts (map asks qs) (stage a true))) is
-        ∙ sym (play_append sinks hosts (map asks qs) (map sends cs) (stage a true));
-    same = same_then same d.same;
-  }
+  -- commands in a row: one more, as far as a refusal, and all
+  pub draw_more : (xs : List Command) (i : ℕ) (c : Command) (d : Standing S K) → i < length xs
+      → draw sinks hosts (commands (take (i + 1) xs)) d ≡ draw sinks hosts (commands (get_or xs i c ∷ [])) (draw sinks hosts (commands (take i xs)) d)
+  draw_more xs i c d room =
+      ap (λ (E : Plan). draw sinks hosts E d) (λ j F nib. (ap (map sends) (take_more xs i c room) ∙ map-append sends (take i xs) (get_or xs i c ∷ [])) j)
+      ∙ draw_next (commands (take i xs)) (commands (get_or xs i c ∷ [])) d
 
-  -- no event alters the functions
-  then_same : ((s : K) (f : Function) (x : Float) → hosts.functions (hosts.asked s f x) ≡ hosts.functions s) → (e : Event) (d : Drawing S K) → hosts.functions (then sinks hosts e d).host ≡ hosts.functions d.host
-  then_same same (asks q) d = cond_both d.going _ _ (λ (x : Drawing S K). hosts.functions x.host ≡ hosts.functions d.host) (λ _. same d.host q.0 q.1) (λ _. refl)
-  then_same same (sends c) d =
-      cond_both d.going _ _ (λ (x : Drawing S K). hosts.functions x.host ≡ hosts.functions d.host)
-      (λ _. cond_both (takes (sinks.meaning d.sink) c) _ _ (λ (x : Drawing S K). hosts.functions x.host ≡ hosts.functions d.host) (λ _. refl) (λ _. refl)) (λ _. refl)
+  pub draw_part : (xs : List Command) (i : ℕ) (d : Standing S K) → is_ok (draw sinks hosts (commands (take i xs)) d).drawing.answer ≡ false
+      → draw sinks hosts (commands xs) d ≡ draw sinks hosts (commands (take i xs)) d
+  draw_part xs i d is =
+      ap (λ (E : Plan). draw sinks hosts E d) (λ j F nib. (ap (map sends) (sym (take-append-drop i xs)) ∙ map-append sends (take i xs) (drop i xs)) j)
+      ∙ draw_next (commands (take i xs)) (commands (drop i xs)) d
+      ∙ draw_stopped (commands (drop i xs)) _ is
 
-  play_same : ((s : K) (f : Function) (x : Float) → hosts.functions (hosts.asked s f x) ≡ hosts.functions s) → (es : List Event) (d : Drawing S K) → hosts.functions (play sinks hosts es d).host ≡ hosts.functions d.host
+  pub draw_whole : (xs : List Command) (i : ℕ) (d : Standing S K) → length xs ≤ i → draw sinks hosts (commands (take i xs)) d ≡ draw sinks hosts (commands xs) d
+  draw_whole xs i d past = ap (λ ys. draw sinks hosts (commands ys) d) (take_all i xs past)
+
+  play_asks : (qs : List Question) (d : Drawing S K) → d.answer ≡ Ok tt → play sinks hosts (map asks qs) d ≡ record d { host = all_asked hosts.asked d.host qs }
   unfolding play
-  play_same same [] d = refl
-  play_same same (e ∷ es) d = play_same same es (then sinks hosts e d) ∙ then_same same e d
+  play_asks [] d is = refl
+  play_asks (q ∷ qs) d is =
+      ap (λ (r : Result (Unit {0}) Refused). play sinks hosts (map asks qs) (cond (is_ok r) (one sinks hosts (asks q) d) d)) is ∙ play_asks qs (one sinks hosts (asks q) d) is
 
-  pub same_functions : ((s : K) (f : Function) (x : Float) → hosts.functions (hosts.asked s f x) ≡ hosts.functions s) → {a b : Outliner S K} {all left : List Event} → Leads sinks hosts a all b left
-      → hosts.functions b.host.now ≡ hosts.functions a.host.now
-  same_functions same {a = a} {b = b} {all = all} {left = left} l =
-      sym (play_same same left (stage b true)) ∙ ap (λ (d : Drawing S K). hosts.functions d.host) l.ends ∙ play_same same all (stage a true)
+  -- questions asked, and then commands sent
+  pub draw_asked : (qs : Functions → Nib → List Question) (cs : Functions → Nib → List Command) (d : Standing S K) → d.drawing.answer ≡ Ok tt
+      → draw sinks hosts (asked_then_sent qs cs) d
+      ≡ draw sinks hosts (commands (cs d.functions d.nib)) (record d { drawing = record d.drawing { host = all_asked hosts.asked d.drawing.host (qs d.functions d.nib) } })
+  unfolding draw
+  draw_asked qs cs d is =
+      ap (λ (x : Drawing S K). record d { drawing = x })
+      (play_append (map asks (qs d.functions d.nib)) (map sends (cs d.functions d.nib)) d.drawing
+      ∙ ap (play sinks hosts (map sends (cs d.functions d.nib))) (play_asks (qs d.functions d.nib) d.drawing is))
 
-  -- some of the events that are left are drawn, and the rest goes by the functions and the nib of the outliner then
-  pub passes_on : ((s : K) (f : Function) (x : Float) → hosts.functions (hosts.asked s f x) ≡ hosts.functions s) → (es : List Event) (rest : Functions → Nib → List Event)
-      {a b c : Outliner S K} {all left : List Event} → left ≡ es ++ rest (hosts.functions b.host.now) b.nib → Leads sinks hosts a all b left → Drew sinks hosts b c es true
-      → Leads sinks hosts a all c (rest (hosts.functions c.host.now) c.nib)
-  passes_on same es rest {b = b} {c = c} split l d =
-      let m = goes_on es (rest (hosts.functions b.host.now) b.nib) split l d in
-      let by = same_functions same m ∙ sym (same_functions same l) in
-      let is : rest (hosts.functions c.host.now) c.nib ≡ rest (hosts.functions b.host.now) b.nib = λ i. rest (by i) (d.same.nib i) in
-      record { ends = ap (λ (e : List Event). play sinks hosts e (stage c true)) is ∙ m.ends; same = m.same; fits = same_fits (rest (hosts.functions b.host.now) b.nib) c.sent _ is m.fits }
+  -- a part drawn and then what is left, and a part that was refused
+  pub and_then : (E E' : Plan) (d : Standing S K) {e r : Standing S K} → e ≡ draw sinks hosts E d → r ≡ draw sinks hosts E' e → r ≡ draw sinks hosts (E ⨾ E') d
+  and_then E E' d first rest = rest ∙ ap (draw sinks hosts E') first ∙ sym (draw_next E E' d)
 
-  pub drew_by : {a b : Outliner S K} {es fs : List Event} {going : Bool} → es ≡ fs → Drew sinks hosts a b es going → Drew sinks hosts a b fs going
-  drew_by {a = a} is d = record { played = d.played ∙ ap (λ (e : List Event). play sinks hosts e (stage a true)) is; same = d.same }
+  pub no_more : (E E' : Plan) (d : Standing S K) {e : Standing S K} → is_ok e.drawing.answer ≡ false → e ≡ draw sinks hosts E d → e ≡ draw sinks hosts (E ⨾ E') d
+  no_more E E' d {e = e} refused first = and_then E E' d first (sym (draw_stopped E' e refused))
+
+  -- a part that goes by a side, which goes by the nib
+  pub by_last : (E : OffsetSegment → Plan) (last : Nib → OffsetSegment) (d : Standing S K) {o : OffsetSegment} {e : Standing S K}
+      → o ≡ last d.nib → e ≡ draw sinks hosts (E o) d → e ≡ draw sinks hosts (by_nib (λ nib. E (last nib))) d
+  by_last E last d is drawn = drawn ∙ ap (λ p. draw sinks hosts (E p) d) is ∙ sym (draw_by_nib (λ nib. E (last nib)) d)
+
+-- what a few parts come to
+pub ruleset drawing = (draw_next, draw_stopped, draw_by_nib, draw_none)
+
+-- and a row of commands
+pub ruleset sending = (draw_more, draw_part, draw_whole, draw_none)

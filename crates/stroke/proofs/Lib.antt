@@ -2,19 +2,18 @@ mod Added
 mod Blocks
 mod Bounds
 mod Calling
-mod Collecting
 mod Contours
 mod Dashing
 mod Drawn
+mod Exact
 mod Lawfully
 mod Lengths
 mod Offsets
 mod Performing
-mod Playing
 mod Ranging
 mod Rows
+mod Running
 pub mod Seen
 mod Stretches
 mod Traces
-mod Two
 mod Walking

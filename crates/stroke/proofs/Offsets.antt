@@ -12,10 +12,10 @@ use Rattle.pen.specs.declared.nib.Nib.{Nib}
 use Rattle.pen.specs.declared.offset.OffsetSegment.{OffsetSegment}
 use Rattle.cursor.specs.Laws.{NoEnd}
 use Rattle.segments.specs.Lists.{Each}
-use Rattle.stroke.specs.Events.{Event, sends}
-use Rattle.stroke.specs.Outlines.{turn_between, emitted, join_events, forward, one_forward, back_events, backward, side, other_side, sides, other_sides, last_side, end_cap_events, cross_events, finish_events, open_ring, closed_ring, ring_of, around, is_lone_dot, lone_dot, outline}
+use Rattle.stroke.specs.Events.{Event, sends, Plan}
+use Rattle.stroke.specs.Outlines.{turn_between, emitted, between, one_onward, onward, side, other_side, sides, other_sides, last_side, end_cap_events, cross_events, finish_events, capped_ring, closed_ring, around, capped_outline, closed_outline, is_lone_dot, lone_dot, outline}
 use Rattle.stroke.specs.Contours.{row, Contour, Rising, command_of, offset_command, OffsetsStand, RunContour, DotOrContour, RunDrawn}
-use Rattle.stroke.proofs.Contours.{row_append, ring_contour}
+use Rattle.stroke.proofs.Contours.{row_append, capped_contour, closed_contour}
 
 -- these stand in a row of commands, each after the one before it
 abbrev Among : List (Option Command) → List Command → Type 0
@@ -98,43 +98,55 @@ emitted_among (End closed) h = absurd h
 side_sent : (o : OffsetSegment) → HasSide o → Sent (o ∷ []) (map sends (emitted o.segment))
 side_sent o h = emitted_among o.segment h
 
-forward_sent : (F : Functions) (nib : Nib) (o : OffsetSegment) (ps : List OffsetSegment) → Each HasSide ps → Sent ps (forward F nib o ps)
-unfolding forward
-forward_sent F nib o [] h = tt
-forward_sent F nib o (p ∷ ps) h = sent_after (p ∷ ps) (join_events F nib (turn_between o p)) _ (sent_both (p ∷ []) ps (map sends (emitted p.segment)) (forward F nib p ps) (side_sent p h.0) (forward_sent F nib p ps h.1))
+-- by functions and a nib
+module _ (F : Functions) (nib : Nib) where
+  onward_sent : (split : Bool) (o : OffsetSegment) (ps : List OffsetSegment) → Each HasSide ps → Sent ps (onward split o ps F nib)
+  unfolding onward one_onward
+  onward_sent split o [] h = tt
+  onward_sent split o (p ∷ ps) h =
+      sent_both (p ∷ []) ps (between split o p F nib ++ map sends (emitted p.segment)) (onward split p ps F nib)
+      (sent_after (p ∷ []) (between split o p F nib) (map sends (emitted p.segment)) (side_sent p h.0)) (onward_sent split p ps h.1)
 
-backward_sent : (F : Functions) (nib : Nib) (o : OffsetSegment) (ps : List OffsetSegment) → Each HasSide ps → Sent ps (backward F nib o ps)
-unfolding backward
-backward_sent F nib o [] h = tt
-backward_sent F nib o (p ∷ ps) h = sent_after (p ∷ ps) (back_events F nib o p) _ (sent_both (p ∷ []) ps (map sends (emitted p.segment)) (backward F nib p ps) (side_sent p h.0) (backward_sent F nib p ps h.1))
+  -- the rings
+  open_sent : (o : OffsetSegment) (os : List OffsetSegment) (p : OffsetSegment) (ps : List OffsetSegment) → Each HasSide (o ∷ os) → Each HasSide (p ∷ ps)
+      → Sent ((o ∷ os) ++ (p ∷ ps)) (capped_ring false o os p ps F nib)
+  open_sent o os p ps h k =
+      let end = last_side o os in
+      sent_on ((o ∷ os) ++ (p ∷ ps)) (sends (MoveTo o.start)) _ (sent_both (o ∷ []) (os ++ (p ∷ ps)) (map sends (emitted o.segment)) _ (side_sent o h.0)
+      (sent_both os (p ∷ ps) (onward false o os F nib) _ (onward_sent false o os h.1)
+      (sent_both (p ∷ []) ps (cross_events end p F nib) _ (sent_after (p ∷ []) (end_cap_events (turn_between end p) F nib) (map sends (emitted p.segment)) (side_sent p k.0))
+      (sent_more ps (onward true p ps F nib) (finish_events (last_side p ps) o F nib) (onward_sent true p ps k.1)))))
 
--- the rings
-open_sent : (F : Functions) (nib : Nib) (o : OffsetSegment) (os : List OffsetSegment) (p : OffsetSegment) (ps : List OffsetSegment) → Each HasSide (o ∷ os) → Each HasSide (p ∷ ps) → Sent ((o ∷ os) ++ (p ∷ ps)) (open_ring F nib o os p ps)
-open_sent F nib o os p ps h k =
-    let end = last_side o os in
-    sent_on ((o ∷ os) ++ (p ∷ ps)) (sends (MoveTo o.start)) _ (sent_both (o ∷ []) (os ++ (p ∷ ps)) (map sends (emitted o.segment)) _ (side_sent o h.0)
-    (sent_both os (p ∷ ps) (forward F nib o os) _ (forward_sent F nib o os h.1)
-    (sent_both (p ∷ []) ps (cross_events F nib end p) _ (sent_after (p ∷ []) (end_cap_events F nib end p) (map sends (emitted p.segment)) (side_sent p k.0))
-    (sent_more ps (backward F nib p ps) (finish_events F nib (last_side p ps) o) (backward_sent F nib p ps k.1)))))
+  closed_sent : (o : OffsetSegment) (os : List OffsetSegment) (p : OffsetSegment) (ps : List OffsetSegment) → Each HasSide (o ∷ os) → Each HasSide (p ∷ ps)
+      → Sent ((o ∷ os) ++ (p ∷ ps)) (closed_ring o os p ps F nib)
+  unfolding one_onward
+  closed_sent o os p ps h k =
+      let end = last_side o os in
+      let back = last_side p ps in
+      sent_on ((o ∷ os) ++ (p ∷ ps)) (sends (MoveTo end.end)) _ (sent_both (o ∷ os) (p ∷ ps) (onward false end (o ∷ os) F nib) _ (onward_sent false end (o ∷ os) h)
+      (sent_on (p ∷ ps) (sends (LineTo back.end)) _ (sent_both (p ∷ []) ps (one_onward false back p F nib) _ (sent_after (p ∷ []) (between false back p F nib) (map sends (emitted p.segment)) (side_sent p k.0))
+      (sent_more ps (onward true p ps F nib) (sends Close ∷ []) (onward_sent true p ps k.1)))))
 
-closed_sent : (F : Functions) (nib : Nib) (o : OffsetSegment) (os : List OffsetSegment) (p : OffsetSegment) (ps : List OffsetSegment) → Each HasSide (o ∷ os) → Each HasSide (p ∷ ps) → Sent ((o ∷ os) ++ (p ∷ ps)) (closed_ring F nib o os p ps)
-closed_sent F nib o os p ps h k =
-    let end = last_side o os in
-    let back = last_side p ps in
-    sent_on ((o ∷ os) ++ (p ∷ ps)) (sends (MoveTo end.end)) _ (sent_both (o ∷ os) (p ∷ ps) (forward F nib end (o ∷ os)) _ (forward_sent F nib end (o ∷ os) h)
-    (sent_on (p ∷ ps) (sends (LineTo back.end)) _ (sent_both (p ∷ []) ps (one_forward F nib back p) _ (sent_after (p ∷ []) (join_events F nib (turn_between back p)) (map sends (emitted p.segment)) (side_sent p k.0))
-    (sent_more ps (backward F nib p ps) (sends Close ∷ []) (backward_sent F nib p ps k.1)))))
+-- the ring of a run
+abbrev ring_of : Bool → OffsetSegment → List OffsetSegment → OffsetSegment → List OffsetSegment → Plan
+ring_of true o os p ps = closed_ring o os p ps
+ring_of false o os p ps = capped_ring false o os p ps
 
-ring_sent : (closed : Bool) (F : Functions) (nib : Nib) (o : OffsetSegment) (os : List OffsetSegment) (p : OffsetSegment) (ps : List OffsetSegment) → Each HasSide (o ∷ os) → Each HasSide (p ∷ ps) → Sent ((o ∷ os) ++ (p ∷ ps)) (ring_of closed F nib o os p ps)
+ring_sent : (closed : Bool) (F : Functions) (nib : Nib) (o : OffsetSegment) (os : List OffsetSegment) (p : OffsetSegment) (ps : List OffsetSegment) → Each HasSide (o ∷ os) → Each HasSide (p ∷ ps)
+    → Sent ((o ∷ os) ++ (p ∷ ps)) (ring_of closed o os p ps F nib)
 ring_sent true F nib o os p ps h k = closed_sent F nib o os p ps h k
 ring_sent false F nib o os p ps h k = open_sent F nib o os p ps h k
+
+ring_contour : (closed : Bool) (F : Functions) (nib : Nib) (o : OffsetSegment) (os : List OffsetSegment) (p : OffsetSegment) (ps : List OffsetSegment) → Contour (row (ring_of closed o os p ps F nib))
+ring_contour true F nib o os p ps = closed_contour F nib o os p ps
+ring_contour false F nib o os p ps = capped_contour F nib false o os p ps
 
 -- a ring of as many sides back as there
 record Ring (os ps : List OffsetSegment) (es : List Event) : Type 0 where
   contour : Contour (row es)
   sent : Sent (os ++ ps) es
 
-ring_around : (closed : Bool) (F : Functions) (nib : Nib) (o : OffsetSegment) (os ps : List OffsetSegment) → Each HasSide (o ∷ os) → Each HasSide ps → 0 < length ps → Ring (o ∷ os) ps (around (ring_of closed F nib) (o ∷ os) ps)
+ring_around : (closed : Bool) (F : Functions) (nib : Nib) (o : OffsetSegment) (os ps : List OffsetSegment) → Each HasSide (o ∷ os) → Each HasSide ps → 0 < length ps → Ring (o ∷ os) ps (around (ring_of closed) (o ∷ os) ps F nib)
 ring_around closed F nib o os [] h k some = absurd (omega arith)
 ring_around closed F nib o os (p ∷ ps) h k some = record { contour = ring_contour closed F nib o os p ps; sent = ring_sent closed F nib o os p ps h k }
 
@@ -166,17 +178,19 @@ offsets_stand nib xs es h =
     let at = placed (map offset_command (sides nib xs ++ other_sides nib xs)) [] (row es) (row es) refl h in
     record { places = at.places; count = omega (arith, simp (length-map, length-append, length-reverse) at (ap length at.stand)); rising = rising_from 0 at.places at.from; stand = at.stand }
 
-run_drawn : (F : Functions) (nib : Nib) (closed : Bool) (x : Segment) (xs : List Segment) → Each NoEnd (x ∷ xs) → RunContour nib (x ∷ xs) (row (around (ring_of closed F nib) (sides nib (x ∷ xs)) (other_sides nib (x ∷ xs))))
+run_drawn : (F : Functions) (nib : Nib) (closed : Bool) (x : Segment) (xs : List Segment) → Each NoEnd (x ∷ xs) → RunContour nib (x ∷ xs) (row (around (ring_of closed) (sides nib (x ∷ xs)) (other_sides nib (x ∷ xs)) F nib))
 run_drawn F nib closed x xs h =
     let r = ring_around closed F nib (side nib x) (sides nib xs) (other_sides nib (x ∷ xs)) (sides_there nib (x ∷ xs) h) (others_there nib (x ∷ xs) h) (omega (arith, others_long nib (x ∷ xs))) in
     record { contour = r.contour; offsets = offsets_stand nib (x ∷ xs) _ r.sent }
 
-by_dot : (b : Bool) (F : Functions) (nib : Nib) (xs : List Segment) (es : List Event) → is_lone_dot nib xs ≡ b → RunContour nib xs (row es) → DotOrContour b F nib xs (row (cond b (lone_dot F nib xs) es))
-by_dot true F nib xs es is h = record { is = is; drawn = refl }
-by_dot false F nib xs es is h = h
+by_dot : (b : Bool) (F : Functions) (nib : Nib) (xs : List Segment) (E : Plan) → is_lone_dot nib xs ≡ b → RunContour nib xs (row (E F nib)) → DotOrContour b F nib xs (row (cond b (lone_dot xs) E F nib))
+by_dot true F nib xs E is h = record { is = is; drawn = refl }
+by_dot false F nib xs E is h = h
 
 -- A run without ends is drawn as a contour, or as a lone dot.
-pub outline_drawn : (F : Functions) (nib : Nib) (closed : Bool) (xs : List Segment) → Each NoEnd xs → RunDrawn F nib xs (row (outline F nib closed xs))
+pub outline_drawn : (F : Functions) (nib : Nib) (closed : Bool) (xs : List Segment) → Each NoEnd xs → RunDrawn F nib xs (row (outline closed xs F nib))
 unfolding row
-outline_drawn F nib closed [] h = refl
-outline_drawn F nib closed (x ∷ xs) h = by_dot (is_lone_dot nib (x ∷ xs)) F nib (x ∷ xs) _ refl (run_drawn F nib closed x xs h)
+outline_drawn F nib true [] h = refl
+outline_drawn F nib false [] h = refl
+outline_drawn F nib true (x ∷ xs) h = by_dot (is_lone_dot nib (x ∷ xs)) F nib (x ∷ xs) (closed_outline (x ∷ xs)) refl (run_drawn F nib true x xs h)
+outline_drawn F nib false (x ∷ xs) h = by_dot (is_lone_dot nib (x ∷ xs)) F nib (x ∷ xs) (capped_outline false (x ∷ xs)) refl (run_drawn F nib false x xs h)

@@ -1,21 +1,23 @@
 -- A stroke in one world of sinks, storages and hosts, seen from another, is a stroke there.
-use Rattle.std.proofs.Common.{◌≡◌, ℕ, ◌+◌, Bool, true, false, cond, T, List, [], ◌∷◌, ◌++◌, Some, None, Option, Ok, Err, Result, sym, refl, ap, ◌∙◌}
+use Rattle.std.proofs.Common.{◌≡◌, ℕ, suc, ◌+◌, Bool, true, false, cond, T, List, [], ◌∷◌, ◌++◌, length, is_ok, Some, None, Option, Ok, Err, Result, sym, refl, ap, ◌∙◌}
 use Rattle.std.specs.Prelude.{Float}
 use Rattle.maths.specs.declared.host.Function.{Function}
-use Rattle.maths.specs.Functions.{Functions, restricted, no_host, HostActs}
+use Rattle.maths.specs.Functions.{Functions, HostActs, no_host, restricted}
 use Rattle.path.specs.declared.command.Command.{Command}
 use Rattle.path.specs.declared.refusal.Reason.{Reason}
-use Rattle.path.specs.declared.refusal.Reason.TheVariants.{StorageFull}
+use Rattle.path.specs.declared.refusal.Reason.TheVariants.{StorageFull, StepsSpent}
 use Rattle.path.specs.declared.refusal.Refusal.{Refusal}
-use Rattle.path.specs.declared.style.Stroke.{Stroke}
 use Rattle.segments.specs.declared.segment.Segment.{Segment}
-use Rattle.sinks.specs.Meaning.{Meaning, takes, joined, SinkActs, meaning_acts}
-use Rattle.storage.specs.Meaning.{room, held_acts, Held, empty_held, held_by, StorageActs}
-use Rattle.limits.specs.Limits.{admitted}
-use Rattle.stroke.specs.Events.{Event, asks, sends, Drawing, drawing, one}
-use Rattle.stroke.specs.Calls.{Action, clears, stores, ends, steps, works_out, draws, stroke_actions}
-use Rattle.stroke.specs.Outcomes.{Stage, Outcome, or_unaltered, why_not, act, act_on, perform, at_start, stroked}
-use Rattle.stroke.specs.Histories.{Call, made, Promised}
+use Rattle.sinks.specs.Meaning.{Meaning, SinkActs, takes, joined, verdict, meaning_acts}
+use Rattle.storage.specs.Meaning.{StorageActs, HasRoom, Held, held_acts, held_by, empty_held, room}
+use Rattle.cursor.specs.Drawings.{drawn_whole}
+use Rattle.pen.specs.Nibs.{nib_of}
+use Rattle.dashes.specs.Patterns.{pattern_of}
+use Rattle.stroke.specs.Events.{asks, sends}
+use Rattle.stroke.specs.Counts.{counted}
+use Rattle.stroke.specs.Calls.{Action, clears, stores, ends, steps, draws, run_by_run}
+use Rattle.stroke.specs.Outcomes.{Stage, Outcome, Request, admitted_request, request_actions, answered, outcome, why_not, act, act_on, perform, at_start, stroked}
+use Rattle.stroke.specs.Histories.{call, Promised}
 use Rattle.stroke.specs.declared.tally.Tally.{Tally}
 
 -- what is seen of either of two things
@@ -24,77 +26,100 @@ seen_either see true x x' taken left = taken tt
 seen_either see false x x' taken left = left
 
 -- how sinks, storages and hosts are seen as others
-module _ {S B K S' B' K' : Type 0} (f : S → S') (g : B → B') (h : K → K') where
-  abbrev pub stage_seen : Stage S B K → Stage S' B' K'
-  stage_seen d = record { sink = f d.sink; storage = g d.storage; host = h d.host; sent = d.sent; taken = d.taken; ended = d.ended; stop = d.stop }
-
-  abbrev pub outcome_seen : Outcome S B K → Outcome S' B' K'
-  outcome_seen o = record { answer = o.answer; sink = f o.sink; storage = g o.storage; host = h o.host }
-
-  abbrev drawing_seen : Drawing S K → Drawing S' K'
-  drawing_seen d = drawing (f d.sink) (h d.host) d.sent d.going
-
-  seen_or_unaltered : (r : Result (Unit {0}) Refusal) (s : S) (b : B) (k : K) (d : Stage S B K) → outcome_seen (or_unaltered r s b k d) ≡ or_unaltered r (f s) (g b) (h k) (stage_seen d)
-  seen_or_unaltered (Ok x) s b k d = refl
-  seen_or_unaltered (Err x) s b k d = refl
+abbrev pub stage_seen : {S B K S' B' K' : Type 0} → (S → S') → (B → B') → (K → K') → Stage S B K → Stage S' B' K'
+stage_seen f g h d = record { sink = f d.sink; storage = g d.storage; host = h d.host; taken = d.taken; ended = d.ended; stop = d.stop }
 
 -- Two worlds, and how those of the first are seen in the second.
-module _ {S B K S' B' K' : Type 0} (sinks : SinkActs S) (storages : StorageActs B) (hosts : HostActs K)
-    (sinks' : SinkActs S') (storages' : StorageActs B') (hosts' : HostActs K')
-    (f : S → S') (g : B → B') (h : K → K') where
-  -- all that is done in the first is done alike in the second
-  pub record Sees : Type 0 where
+module _ {S B K S' B' K' : Type 0} (sinks : SinkActs S) (storages : StorageActs B) (hosts : HostActs K) (sinks' : SinkActs S') (storages' : StorageActs B') (hosts' : HostActs K') (f : S → S') (g : B → B') (h : K → K') where
+  -- All that is done in the first is done alike in the second, as long as a sink is one that so many commands can be sent to.
+  pub record Sees (many : ℕ → S → Type 0) : Type 0 where
     pub means : (s : S) → sinks'.meaning (f s) ≡ sinks.meaning s
-    pub takes_alike : (s : S) (c : Command) → T (takes (sinks.meaning s) c) → f (sinks.took s c) ≡ sinks'.took (f s) c
+    pub takes_alike : (n : ℕ) (s : S) (c : Command) → many (suc n) s → T (takes (sinks.meaning s) c) → (f (sinks.took s c) ≡ sinks'.took (f s) c) × many n (sinks.took s c)
+    pub fewer : (n : ℕ) (s : S) → many (suc n) s → many n s
     pub holds : (b : B) → storages'.held (g b) ≡ storages.held b
     pub capable : (b : B) → storages'.capacity (g b) ≡ storages.capacity b
     pub clears_alike : (b : B) → g (storages.cleared b) ≡ storages'.cleared (g b)
-    pub pushes_alike : (b : B) (x : Segment) → T (room (storages.held b) (storages.capacity b)) → g (storages.pushed b x) ≡ storages'.pushed (g b) x
+    pub pushes_alike : (b : B) (x : Segment) → HasRoom storages b → g (storages.pushed b x) ≡ storages'.pushed (g b) x
     pub asks_alike : (k : K) (q : Function) (x : Float) → h (hosts.asked k q x) ≡ hosts'.asked (h k) q x
 
-  module _ (see : Sees) (budget : ℕ) where
-    seen_one : (e : Event) (s : S) (k : K) (n : ℕ) → drawing_seen f g h (one sinks hosts e s k n) ≡ one sinks' hosts' e (f s) (h k) n
-    seen_one (asks q) s k n = λ i. drawing (f s) (see.asks_alike k q.0 q.1 i) n true
-    seen_one (sends c) s k n =
-        seen_either (drawing_seen f g h) (takes (sinks.meaning s) c) _ _ (λ fits. ap (λ (x : S'). drawing x (h k) (n + 1) true) (see.takes_alike s c fits)) refl
-        ∙ ap (λ (m : Meaning). cond (takes m c) (drawing (sinks'.took (f s) c) (h k) (n + 1) true) (drawing (f s) (h k) n false)) (sym (see.means s))
+  -- in both, and still one for so many
+  pub record Alike (many : ℕ → S → Type 0) (n : ℕ) (d : Stage S B K) (d' : Stage S' B' K') : Type 0 where
+    pub seen : stage_seen f g h d ≡ d'
+    pub many : many n d.sink
 
-    seen_act : (a : Action) (d : Stage S B K) → stage_seen f g h (act sinks storages hosts budget a d) ≡ act sinks' storages' hosts' budget a (stage_seen f g h d)
-    seen_act clears d = λ i. record { sink = f d.sink; storage = see.clears_alike d.storage i; host = h d.host; sent = d.sent; taken = d.taken; ended = d.ended; stop = d.stop }
-    seen_act (stores x) d =
-        seen_either (stage_seen f g h) (room (storages.held d.storage) (storages.capacity d.storage)) _ _ (λ fits. ap (λ (b : B'). record (stage_seen f g h d) { storage = b }) (see.pushes_alike d.storage x fits)) refl
-        ∙ (λ i. cond (room (sym (see.holds d.storage) i) (sym (see.capable d.storage) i)) (record (stage_seen f g h d) { storage = storages'.pushed (g d.storage) x }) (record (stage_seen f g h d) { stop = Some StorageFull }))
-    seen_act ends d = refl
-    seen_act steps d = seen_either (stage_seen f g h) _ _ _ (λ _. refl) refl
-    seen_act (works_out n r) d = refl
-    seen_act (draws e) d = ap (λ (x : Drawing S' K'). record (stage_seen f g h d) { sink = x.sink; host = x.host; sent = x.sent; stop = why_not x.going }) (seen_one e d.sink d.host d.sent)
+  module _ (many : ℕ → S → Type 0) (see : Sees many) (budget : ℕ) where
+    sent_alike : (n : ℕ) (t : Bool) (s : S) (c : Command) → many (suc n) s → (T t → (f (sinks.took s c) ≡ sinks'.took (f s) c) × many n (sinks.took s c))
+        → (f (cond t (sinks.took s c) s) ≡ cond t (sinks'.took (f s) c) (f s)) × many n (cond t (sinks.took s c) s)
+    sent_alike n true s c enough taken = taken tt
+    sent_alike n false s c enough taken = (refl, see.fewer n s enough)
 
-    seen_act_on : (stop : Option Reason) (a : Action) (d : Stage S B K)
-        → stage_seen f g h (act_on sinks storages hosts budget stop a d) ≡ act_on sinks' storages' hosts' budget stop a (stage_seen f g h d)
-    seen_act_on None a d = seen_act a d
-    seen_act_on (Some why) a d = refl
+    either_many : (n : ℕ) (t : Bool) (d e : Stage S B K) → many n d.sink → many n e.sink → many n (cond t d e).sink
+    either_many n true d e p q = p
+    either_many n false d e p q = q
 
-    pub seen_perform : (todo : List Action) (d : Stage S B K)
-        → stage_seen f g h (perform sinks storages hosts budget todo d) ≡ perform sinks' storages' hosts' budget todo (stage_seen f g h d)
+    act_alike : (n : ℕ) (a : Action) (d : Stage S B K) → many (suc n) d.sink → Alike many n (act sinks storages hosts budget a d) (act sinks' storages' hosts' budget a (stage_seen f g h d))
+    act_alike n clears d enough = record { seen = λ i. record (stage_seen f g h d) { storage = see.clears_alike d.storage i }; many = see.fewer n d.sink enough }
+    act_alike n (stores x) d enough = record {
+      seen = seen_either (stage_seen f g h) (room (storages.held d.storage) (storages.capacity d.storage)) _ _ (λ fits. ap (λ (b : B'). record (stage_seen f g h d) { storage = b }) (see.pushes_alike d.storage x fits)) refl
+          ∙ (λ i. cond (room (sym (see.holds d.storage) i) (sym (see.capable d.storage) i)) (record (stage_seen f g h d) { storage = storages'.pushed (g d.storage) x }) (record (stage_seen f g h d) { stop = Some StorageFull }));
+      many = either_many n (room (storages.held d.storage) (storages.capacity d.storage)) (record d { storage = storages.pushed d.storage x }) (record d { stop = Some StorageFull }) (see.fewer n d.sink enough) (see.fewer n d.sink enough);
+    }
+    act_alike n ends d enough = record { seen = refl; many = see.fewer n d.sink enough }
+    act_alike n steps d enough = record {
+      seen = seen_either (stage_seen f g h) _ _ _ (λ _. refl) refl;
+      many = either_many n _ (record d { taken = d.taken + 1 }) (record d { stop = Some StepsSpent }) (see.fewer n d.sink enough) (see.fewer n d.sink enough);
+    }
+    act_alike n (draws (asks q)) d enough = record { seen = λ i. record (stage_seen f g h d) { host = see.asks_alike d.host q.0 q.1 i; stop = None }; many = see.fewer n d.sink enough }
+    act_alike n (draws (sends c)) d enough =
+        let sent = sent_alike n (takes (sinks.meaning d.sink) c) d.sink c enough (see.takes_alike n d.sink c enough) in
+        record {
+          seen = (λ i. record (stage_seen f g h d) { sink = sent.0 i; stop = why_not (verdict (sinks.meaning d.sink) c) })
+              ∙ (λ i. record (stage_seen f g h d) { sink = cond (takes (sym (see.means d.sink) i) c) (sinks'.took (f d.sink) c) (f d.sink); stop = why_not (verdict (sym (see.means d.sink) i) c) });
+          many = sent.1;
+        }
+
+    act_on_alike : (n : ℕ) (stop : Option Reason) (a : Action) (d : Stage S B K) → many (suc n) d.sink
+        → Alike many n (act_on sinks storages hosts budget stop a d) (act_on sinks' storages' hosts' budget stop a (stage_seen f g h d))
+    act_on_alike n None a d enough = act_alike n a d enough
+    act_on_alike n (Some why) a d enough = record { seen = refl; many = see.fewer n d.sink enough }
+
+    pub perform_alike : (todo : List Action) (d : Stage S B K) → many (length todo) d.sink
+        → Alike many 0 (perform sinks storages hosts budget todo d) (perform sinks' storages' hosts' budget todo (stage_seen f g h d))
     unfolding perform
-    seen_perform [] d = refl
-    seen_perform (a ∷ more) d =
-        seen_perform more (act_on sinks storages hosts budget d.stop a d)
-        ∙ ap (perform sinks' storages' hosts' budget more) (seen_act_on d.stop a d)
+    perform_alike [] d enough = record { seen = refl; many = enough }
+    perform_alike (a ∷ more) d enough =
+        let one = act_on_alike (length more) d.stop a d enough in
+        let rest = perform_alike more (act_on sinks storages hosts budget d.stop a d) one.many in
+        record { seen = rest.seen ∙ ap (perform sinks' storages' hosts' budget more) one.seen; many = rest.many }
 
-    -- a whole call in the first world is that call in the second
-    pub seen_stroked : (F : Functions) (cs : List Command) (style : Stroke) (dashes : List Float) (s : S) (b : B) (k : K)
-        → outcome_seen f g h (stroked sinks storages hosts budget F cs style dashes s b k)
-        ≡ stroked sinks' storages' hosts' budget F cs style dashes (f s) (g b) (h k)
-    unfolding stroked
-    seen_stroked F cs style dashes s b k =
-        let todo = stroke_actions F cs style dashes in
-        let start = at_start sinks storages hosts budget s b k in
-        seen_or_unaltered f g h (admitted cs style dashes budget) s b k (perform sinks storages hosts budget todo start)
-        ∙ ap (or_unaltered (admitted cs style dashes budget) (f s) (g b) (h k)) (seen_perform todo start)
+-- ---- whole calls
 
-abbrev pub nothing : {K : Type 0} → K → Unit {0}
-nothing k = tt
+-- where any number can be sent
+abbrev pub Any : {S : Type 0} → ℕ → S → Type 0
+Any n s = Unit {0}
+
+abbrev pub outcome_seen : {S B K S' B' K' : Type 0} → (S → S') → (B → B') → (K → K') → Outcome S B K → Outcome S' B' K'
+outcome_seen f g h o = record { answer = o.answer; sink = f o.sink; storage = g o.storage; host = h o.host }
+
+module _ {S B K S' B' K' : Type 0} (sinks : SinkActs S) (storages : StorageActs B) (hosts : HostActs K) (sinks' : SinkActs S') (storages' : StorageActs B') (hosts' : HostActs K') (f : S → S') (g : B → B') (h : K → K') where
+  -- a call in the first world is that call in the second
+  pub seen_stroked : Sees sinks storages hosts sinks' storages' hosts' f g h Any → (r : Request) (s : S) (b : B) (k : K) → hosts'.functions (h k) ≡ hosts.functions k
+      → outcome_seen f g h (stroked sinks storages hosts r s b k) ≡ stroked sinks' storages' hosts' r (f s) (g b) (h k)
+  unfolding stroked
+  seen_stroked see r s b k same =
+      let both : Sees (counted sinks) storages hosts (counted sinks') storages' hosts' (λ x. (f x.0, x.1)) g h Any = record {
+        means = λ x. see.means x.0;
+        takes_alike = λ n x c enough fits. ((λ i. ((see.takes_alike n x.0 c enough fits).0 i, x.1 + 1)), tt);
+        fewer = λ n x enough. tt;
+        holds = see.holds;
+        capable = see.capable;
+        clears_alike = see.clears_alike;
+        pushes_alike = see.pushes_alike;
+        asks_alike = see.asks_alike;
+      } in
+      let ends : Stage (S' × ℕ) B' K' → Outcome S' B' K' = λ d. record (outcome d) { answer = answered (admitted_request r) (outcome d).answer } in
+      ap ends (perform_alike (counted sinks) storages hosts (counted sinks') storages' hosts' (λ x. (f x.0, x.1)) g h Any both r.budget (request_actions (hosts.functions k) r) (at_start (s, 0) b k) tt).seen
+      ∙ (λ i. ends (perform (counted sinks') storages' hosts' r.budget (request_actions (sym same i) r) (at_start (f s, 0) (g b) (h k))))
 
 -- The laws of a sink and of a storage.
 abbrev pub Grows : {S : Type 0} → SinkActs S → Type 0
@@ -103,76 +128,57 @@ Grows {S = S} sinks = (s : S) (c : Command) → T (takes (sinks.meaning s) c) �
 pub record StorageLaws {B : Type 0} (storages : StorageActs B) : Type 0 where
   pub empties : (b : B) → storages.held (storages.cleared b) ≡ []
   pub same_cleared : (b : B) → storages.capacity (storages.cleared b) ≡ storages.capacity b
-  pub grows : (b : B) (x : Segment) → T (room (storages.held b) (storages.capacity b)) → storages.held (storages.pushed b x) ≡ storages.held b ++ (x ∷ [])
-  pub same_pushed : (b : B) (x : Segment) → T (room (storages.held b) (storages.capacity b)) → storages.capacity (storages.pushed b x) ≡ storages.capacity b
+  pub grows : (b : B) (x : Segment) → HasRoom storages b → storages.held (storages.pushed b x) ≡ storages.held b ++ (x ∷ [])
+  pub same_pushed : (b : B) (x : Segment) → HasRoom storages b → storages.capacity (storages.pushed b x) ≡ storages.capacity b
 
--- where the storage is emptied first, answer and sink are those of a call whose storage was empty
-first_emptied : (r : Result (Unit {0}) Refusal) (m : Meaning) (b b' : Held) (d : Stage Meaning Held (Unit {0})) →
-    ((or_unaltered r m b tt d).answer ≡ (or_unaltered r m b' tt d).answer) × ((or_unaltered r m b tt d).sink ≡ (or_unaltered r m b' tt d).sink)
-first_emptied (Ok x) m b b' d = (refl, refl)
-first_emptied (Err x) m b b' d = (refl, refl)
+-- what a call tells on a meaning is the same for an empty storage, since the storage is emptied first
+emptied_first : (go : Bool) (F : Functions) (n : ℕ) (more : List Action) (m : Meaning) (b : Held) → let end : Held → Outcome Meaning Held (Unit {0}) = λ x. outcome (perform (counted meaning_acts) held_acts (no_host F) n (cond go (clears ∷ more) []) (at_start (m, 0) x tt)) in
+    ((end b).answer ≡ (end (empty_held b.capacity)).answer) × ((end b).sink ≡ (end (empty_held b.capacity)).sink)
+unfolding perform
+emptied_first true F n more m b = (refl, refl)
+emptied_first false F n more m b = (refl, refl)
 
-module _ {S B K : Type 0} (sinks : SinkActs S) (storages : StorageActs B) (hosts : HostActs K)
-    (storage : StorageLaws storages) (budget : ℕ) (F : Functions) (cs : List Command) (style : Stroke) (dashes : List Float) (s : S) (b : B) (k : K) where
+module _ {S B K : Type 0} (sinks : SinkActs S) (storages : StorageActs B) (hosts : HostActs K) (laws : StorageLaws storages) (r : Request) (s : S) (b : B) (k : K) where
   -- A call with any storage is that call with a storage in values.
-  pub stroked_held : outcome_seen (λ s. s) (held_by storages) (λ k. k) (stroked sinks storages hosts budget F cs style dashes s b k)
-      ≡ stroked sinks held_acts hosts budget F cs style dashes s (held_by storages b) k
+  pub stroked_held : outcome_seen (λ s. s) (held_by storages) (λ k. k) (stroked sinks storages hosts r s b k) ≡ stroked sinks held_acts hosts r s (held_by storages b) k
   stroked_held = seen_stroked sinks storages hosts sinks held_acts hosts (λ s. s) (held_by storages) (λ k. k)
       (record {
         means = λ s. refl;
-        takes_alike = λ s c fits. refl;
+        takes_alike = λ n s c enough fits. (refl, tt);
+        fewer = λ n s enough. tt;
         holds = λ b. refl;
         capable = λ b. refl;
-        clears_alike = λ b i. record { segments = storage.empties b i; capacity = storage.same_cleared b i };
-        pushes_alike = λ b x fits i. record { segments = storage.grows b x fits i; capacity = storage.same_pushed b x fits i };
+        clears_alike = λ b i. record { segments = laws.empties b i; capacity = laws.same_cleared b i };
+        pushes_alike = λ b x fits i. record { segments = laws.grows b x fits i; capacity = laws.same_pushed b x fits i };
         asks_alike = λ k q x. refl;
       })
-      budget F cs style dashes s b k
+      r s b k refl
 
-  -- with the answer and what it was lent
-  pub whole_held : {r : Result Tally Refusal} {s' : S} {b' : B} {k' : K}
-      → record { answer = r; sink = s'; storage = b'; host = k' } ≡ stroked sinks storages hosts budget F cs style dashes s b k
-      → record { answer = r; sink = s'; storage = held_by storages b'; host = k' }
-      ≡ stroked sinks held_acts hosts budget F cs style dashes s (held_by storages b) k
-  whole_held whole = ap (outcome_seen (λ s. s) (held_by storages) (λ k. k)) whole ∙ stroked_held
-
-  -- a call on a sink is that call on what the sink means
-  stroked_meant : Grows sinks → outcome_seen sinks.meaning (held_by storages) nothing (stroked sinks storages hosts budget F cs style dashes s b k)
-      ≡ stroked meaning_acts held_acts (no_host F) budget F cs style dashes (sinks.meaning s) (held_by storages b) tt
-  stroked_meant grows = seen_stroked sinks storages hosts meaning_acts held_acts (no_host F) sinks.meaning (held_by storages) nothing
+  -- and on a sink it is that call on what the sink means
+  stroked_meant : Grows sinks → outcome_seen sinks.meaning (held_by storages) (λ k. tt {0}) (stroked sinks storages hosts r s b k) ≡ stroked meaning_acts held_acts (no_host (hosts.functions k)) r (sinks.meaning s) (held_by storages b) tt
+  stroked_meant grows = seen_stroked sinks storages hosts meaning_acts held_acts (no_host (hosts.functions k)) sinks.meaning (held_by storages) (λ k. tt)
       (record {
         means = λ s. refl;
-        takes_alike = grows;
+        takes_alike = λ n s c enough fits. (grows s c fits, tt);
+        fewer = λ n s enough. tt;
         holds = λ b. refl;
         capable = λ b. refl;
-        clears_alike = λ b i. record { segments = storage.empties b i; capacity = storage.same_cleared b i };
-        pushes_alike = λ b x fits i. record { segments = storage.grows b x fits i; capacity = storage.same_pushed b x fits i };
+        clears_alike = λ b i. record { segments = laws.empties b i; capacity = laws.same_cleared b i };
+        pushes_alike = λ b x fits i. record { segments = laws.grows b x fits i; capacity = laws.same_pushed b x fits i };
         asks_alike = λ k q x. refl;
       })
-      budget F cs style dashes s b k
-
-  -- the call in values
-  abbrev pub the_call : Result Tally Refusal → Call
-  the_call r = record { commands = cs; style = style; dashes = dashes; functions = F; capacity = storages.capacity b; budget = budget; answer = r }
-
-  made_meant : (r : Result Tally Refusal) → Grows sinks → let o = stroked sinks storages hosts budget F cs style dashes s b k in
-      let m = made (the_call r) (sinks.meaning s) in (o.answer ≡ m.answer) × (sinks.meaning o.sink ≡ m.sink)
-  unfolding stroked perform
-  made_meant r grows =
-      let e = stroked_meant grows in
-      let both = first_emptied (admitted cs style dashes budget) (sinks.meaning s) (held_by storages b) (empty_held (storages.capacity b))
-      (perform meaning_acts held_acts (no_host F) budget (stroke_actions F cs style dashes)
-      (at_start meaning_acts held_acts (no_host F) budget (sinks.meaning s) (empty_held (storages.capacity b)) tt)) in
-      (ap (λ (o : Outcome Meaning Held (Unit {0})). o.answer) e ∙ both.0, ap (λ (o : Outcome Meaning Held (Unit {0})). o.sink) e ∙ both.1)
+      r s b k refl
 
   -- So the answer of a call and the sink it left keep what the call in values promises.
-  pub promised : {r : Result Tally Refusal} {s' : S} → Grows sinks → r ≡ (stroked sinks storages hosts budget F cs style dashes s b k).answer
-      → s' ≡ (stroked sinks storages hosts budget F cs style dashes s b k).sink → restricted F ≡ F → Promised (the_call r) (sinks.meaning s) (sinks.meaning s')
-  promised {r = r} grows answer sink narrow =
-      let m = made_meant r grows in
-      record { answer = answer ∙ m.0; sink = ap sinks.meaning sink ∙ m.1; narrow = narrow }
-
-  pub promised_by : {r : Result Tally Refusal} {s' : S} {b' : B} {k' : K} → Grows sinks
-      → record { answer = r; sink = s'; storage = b'; host = k' } ≡ stroked sinks storages hosts budget F cs style dashes s b k
-      → restricted F ≡ F → Promised (the_call r) (sinks.meaning s) (sinks.meaning s')
-  promised_by grows whole narrow = promised grows (λ i. (whole i).answer) (λ i. (whole i).sink) narrow
+  pub promised_by : {a : Result Tally Refusal} {s' : S} {b' : B} {k' : K} → Grows sinks → record { answer = a; sink = s'; storage = b'; host = k' } ≡ stroked sinks storages hosts r s b k → restricted (hosts.functions k) ≡ hosts.functions k
+      → Promised (call r.commands r.style r.dashes (hosts.functions k) (storages.capacity b) r.budget a) (sinks.meaning s) (sinks.meaning s')
+  unfolding stroked
+  promised_by grows whole narrow =
+      let is = ap (outcome_seen sinks.meaning (held_by storages) (λ k. tt {0})) whole ∙ stroked_meant grows in
+      let F = hosts.functions k in
+      let same = emptied_first (is_ok (admitted_request r)) F r.budget (run_by_run F (nib_of r.style) (pattern_of r.dashes r.style.offset) [] (drawn_whole F true r.commands)) (sinks.meaning s) (held_by storages b) in
+      record {
+        answer = ap (λ (o : Outcome Meaning Held (Unit {0})). o.answer) is ∙ ap (answered (admitted_request r)) same.0;
+        sink = ap (λ (o : Outcome Meaning Held (Unit {0})). o.sink) is ∙ same.1;
+        narrow = narrow;
+      }

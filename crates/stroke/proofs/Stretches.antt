@@ -1,5 +1,5 @@
 -- The pieces of a dash, by place.
-use Rattle.std.proofs.Common.{◌≡◌, ℕ, zero, suc, ◌+◌, ◌-◌, ◌<◌, ◌≤◌, ◌==◌, cond, List, [], ◌∷◌, ◌++◌, length, take, drop, get_or, Some, None, Option, sym, refl, ap, ◌∙◌, arith, length-append, add-one, true, false, drop-drop}
+use Rattle.std.proofs.Common.{◌≡◌, ℕ, zero, suc, ◌+◌, ◌-◌, ◌<◌, ◌≤◌, ◌==◌, cond, List, [], ◌∷◌, ◌++◌, length, take, drop, get_or, ℤ, pos, negsuc, neg_ℤ, ◌≤ℤ◌, ◌<ℤ◌, Some, None, Option, sym, refl, ap, ◌∙◌, arith, length-append, add-one, true, false, drop-drop}
 use Rattle.std.specs.Prelude.{Float}
 use Rattle.std.specs.List.{slice_get}
 use Rattle.std.specs.Float.Ieee.{le}
@@ -7,12 +7,15 @@ use Rattle.std.proofs.lemmas.Bool.{cond_both, eqb-true, eqb-false, ne_eqb, cond-
 use Rattle.std.proofs.lemmas.List.{get_or-take, get_or-drop, length-drop, length-take-le}
 use Rattle.std.proofs.lemmas.Option.{slice_get_within, slice_get_past, get_or_from_slice_get}
 use Rattle.std.proofs.Math.Seq.{drop-cons}
-use Rattle.maths.specs.Functions.{Functions}
-use Rattle.pen.specs.declared.nib.Nib.{Nib}
 use Rattle.numbers.specs.Arithmetic.{zero as zero_f, one}
 use Rattle.segments.specs.declared.segment.Segment.{Segment}
 use Rattle.segments.specs.Pieces.{segment_slice}
-use Rattle.stroke.specs.Ranges.{sliced, stretch, pieces, dash_dot, is_dot, stretch_outline, range_outline}
+use Rattle.stroke.specs.Ranges.{twice_place, sliced, stretch, ranged, pieces, dash_dot, dash_of}
+use Rattle.stroke.specs.Outlines.{capped_outline}
+use Rattle.dashes.specs.declared.dasher.Range.{Range}
+use Rattle.dashes.specs.Spans.{is_dot}
+use Rattle.dashes.specs.Walks.{Within}
+use Rattle.std.proofs.lemmas.Int.{ints}
 use Rattle.dashes.proofs.Reaching.{found_none}
 
 pub length_sliced : (t0 t1 : Float) (ys : List Segment) → length (sliced t0 t1 ys) ≡ length ys
@@ -126,6 +129,20 @@ pub pieces_from : (t0 t1 : Float) (xs : List Segment) (from to count : ℕ) → 
 pieces_from t0 t1 xs from to count order before few =
     ap (sliced t0 t1) (part_of xs from to count (omega (arith, few))) ∙ sym (cond-false (le one t0) (sliced zero_f t1 (drop 1 (stretch xs from to))) (sliced t0 t1 (stretch xs from to)) before)
 
+-- The places of a range, where the run is written twice: in order, and on it.
+pub record Placed (n : ℕ) (first last : ℤ) : Type 0 where
+  pub ordered : twice_place n first ≤ twice_place n last
+  pub inside : twice_place n last < n + n
+  pub same : twice_place n first ≡ twice_place n last → first ≡ last
+
+pub placed : (n : ℕ) (r : Range) → Within n r → Placed n r.start r.end
+placed n r w = signs r.start r.end w.low w.ordered w.high where
+  signs : (first last : ℤ) → neg_ℤ (pos n) ≤ℤ first → first ≤ℤ last → last <ℤ pos n → Placed n first last
+  signs (pos i) (pos j) low order high = record { ordered = omega (arith, ints); inside = omega (arith, ints); same = λ e. ap pos (omega (arith, e)) }
+  signs (pos i) (negsuc j) low order high = absurd (omega (arith, ints))
+  signs (negsuc i) (pos j) low order high = record { ordered = omega (arith, ints); inside = omega (arith, ints); same = λ e. absurd (omega (arith, ints, e)) }
+  signs (negsuc i) (negsuc j) low order high = record { ordered = omega (arith, ints); inside = omega (arith, ints); same = λ e. ap negsuc (omega (arith, ints, e)) }
+
 -- a stretch begins with the segment at its first place
 stretch_first : (xs : List Segment) (from to : ℕ) (x : Segment) {found : Option Segment} → from ≤ to → found ≡ slice_get (xs ++ xs) from → found ≡ Some x
     → stretch xs from to ≡ x ∷ take (to - from) (drop (suc from) (xs ++ xs))
@@ -136,12 +153,22 @@ stretch_first xs from to x order there is =
     ∙ ap (take (suc (to - from))) (drop-cons (xs ++ xs) from x (slice_get_within (xs ++ xs) from x at))
     ∙ ap (λ (y : Segment). y ∷ take (to - from) (drop (suc from) (xs ++ xs))) (get_or_from_slice_get (xs ++ xs) from x x at)
 
--- so a dash of length 0 is drawn there
-pub dot_there : (F : Functions) (nib : Nib) (xs : List Segment) (from to : ℕ) (t0 t1 : Float) (x : Segment) {found : Option Segment} → from ≤ to → is_dot from to t0 t1 ≡ true
-    → found ≡ slice_get (xs ++ xs) from → found ≡ Some x → dash_dot F nib t0 (x ∷ []) ≡ range_outline F nib xs from to t0 t1
-dot_there F nib xs from to t0 t1 x order dot there is =
-    sym (ap (dash_dot F nib t0) (stretch_first xs from to x order there is))
-    ∙ sym (cond-true (is_dot from to t0 t1) (dash_dot F nib t0 (stretch xs from to)) (stretch_outline F nib t0 t1 (stretch xs from to)) dot)
+-- a dash of length 0 is drawn at its first place, which lies on the run
+pub dot_there : (xs : List Segment) (r : Range) (x : Segment) {n from : ℕ} {found : Option Segment} → n ≡ length xs → from ≡ twice_place n r.start → Within (length xs) r → is_dot r ≡ true
+    → found ≡ slice_get (xs ++ xs) from → found ≡ Some x → dash_dot r.t0 (x ∷ []) ≡ dash_of xs r
+dot_there xs r x long from w dot there is =
+    let at = from ∙ ap (λ m. twice_place m r.start) long in
+    let p = placed (length xs) r w in
+    sym (ap (dash_dot r.t0) (stretch_first xs (twice_place (length xs) r.start) (twice_place (length xs) r.end) x p.ordered (there ∙ ap (slice_get (xs ++ xs)) at) is))
+    ∙ sym (cond-true (is_dot r) (dash_dot r.t0 (ranged xs r)) (capped_outline true (pieces r.t0 r.t1 (ranged xs r))) dot)
 
-pub dot_found : {P : Type 0} (xs : List Segment) (from to : ℕ) {found : Option Segment} → from ≤ to → to < length xs + length xs → found ≡ slice_get (xs ++ xs) from → found ≡ None → P
-dot_found xs from to order within there is = absurd (let past = found_none (xs ++ xs) from there is in omega (arith, past, length-append xs xs))
+pub dot_found : {P : Type 0} (xs : List Segment) (r : Range) {n from : ℕ} {found : Option Segment} → n ≡ length xs → from ≡ twice_place n r.start → Within (length xs) r
+    → found ≡ slice_get (xs ++ xs) from → found ≡ None → P
+dot_found xs r long from w there is =
+    let p = placed (length xs) r w in
+    absurd (let past = found_none (xs ++ xs) _ there is in omega (arith, past, p.ordered, p.inside, from ∙ ap (λ m. twice_place m r.start) long, length-append xs xs))
+
+-- what is got from a stretch, and where it begins
+pub ruleset gotten = (stretch_past, stretch_get, stretch_found)
+
+pub ruleset begun = (pieces_past, pieces_from)

@@ -1,12 +1,11 @@
-pub mod Collecting
 pub mod Contours
 pub mod Calls
+pub mod Counts
 pub mod Events
 pub mod Histories
 pub mod Outliners
 pub mod Outcomes
 pub mod Outlines
 pub mod Ranges
-pub mod Rings
 pub mod Runs
 pub mod Strokers

@@ -1,24 +1,20 @@
--- What an outliner has drawn.
-use Rattle.std.specs.Prelude.{◌≡◌, ◌+◌, ◌^◌, ◌<◌, Bool, true, List, length}
-use Rattle.sinks.specs.Meaning.{SinkActs}
-use Rattle.stroke.specs.declared.outliner.Outliner.{Outliner}
-use Rattle.stroke.specs.Events.{Event, Drawing, drawing, play}
+-- What an outliner is seen as.
+use Rattle.std.specs.Prelude.{Result, Ok, Err}
 use Rattle.maths.specs.Functions.{HostActs}
+use Rattle.sinks.specs.declared.sink.Refused.{Refused}
+use Rattle.stroke.specs.declared.outliner.Outliner.{Outliner}
+use Rattle.stroke.specs.Events.{Standing}
 
--- so many events can be counted
-abbrev pub Fits : {S K : Type 0} → Outliner S K → List Event → Type 0
-Fits o es = o.sent + length es < 2 ^ 64
+-- with what its sink answered
+abbrev pub stage : {S K : Type 0} → HostActs K → Outliner S K → Result (Unit {0}) Refused → Standing S K
+stage hosts o answer = record {
+  drawing = record { sink = o.sink.now; host = o.host.now; answer = answer };
+  functions = hosts.functions o.host.now;
+  nib = o.nib;
+  names = (o.sink.ghost_name, o.host.ghost_name);
+}
 
-abbrev pub stage : {S K : Type 0} → Outliner S K → Bool → Drawing S K
-stage o going = drawing o.sink.now o.host.now o.sent going
-
--- an outliner keeps its references and its nib
-pub record Same {S K : Type 0} (a b : Outliner S K) : Type 0 where
-  pub sink : b.sink.ghost_name ≡ a.sink.ghost_name
-  pub host : b.host.ghost_name ≡ a.host.ghost_name
-  pub nib : b.nib ≡ a.nib
-
--- one outliner came from another by these events, up to the first refusal
-pub record Drew {S K : Type 0} (sinks : SinkActs S) (hosts : HostActs K) (a b : Outliner S K) (es : List Event) (going : Bool) : Type 0 where
-  pub played : stage b going ≡ play sinks hosts es (stage a true)
-  pub same : Same a b
+-- what the sink answered, without what comes of it
+abbrev pub sink_answer : {X : Type 0} → Result X Refused → Result (Unit {0}) Refused
+sink_answer (Ok x) = Ok tt
+sink_answer (Err e) = Err e

@@ -1,52 +1,129 @@
--- What a stroker has done.
-use Rattle.std.specs.Prelude.{◌≡◌, ◌+◌, ◌^◌, ◌<◌, Bool, List, length, Some, None, Option, Ok, Err, Result}
+-- What a stroker is seen as, and what it does with the run that its storage holds.
+use Rattle.std.specs.Prelude.{◌≡◌, ℕ, ◌^◌, ◌<◌, Bool, true, false, List, [], ◌∷◌, ◌++◌, map, flat_map, Some, None, Option, Ok, Err, Result}
+use Rattle.maths.specs.Functions.{Functions, HostActs}
+use Rattle.path.specs.declared.command.Command.{Command}
 use Rattle.path.specs.declared.refusal.Reason.{Reason}
-use Rattle.path.specs.declared.refusal.Reason.TheVariants.{StorageFull}
+use Rattle.segments.specs.declared.segment.Segment.{Segment}
+use Rattle.segments.specs.declared.segment.Segment.TheVariants.{Line, Curve, End}
 use Rattle.sinks.specs.Meaning.{SinkActs}
-use Rattle.lent.specs.declared.Full.{Full}
-use Rattle.stroke.specs.declared.outliner.Outliner.{Outliner}
-use Rattle.stroke.specs.declared.stroker.Stroker.{Stroker}
-use Rattle.stroke.specs.Calls.{Action}
-use Rattle.stroke.specs.Outcomes.{Stage, perform}
-use Rattle.stroke.specs.Outliners.{Same}
-use Rattle.maths.specs.Functions.{HostActs}
 use Rattle.storage.specs.Meaning.{StorageActs}
+use Rattle.pen.specs.declared.nib.Nib.{Nib}
+use Rattle.cursor.specs.Drawings.{drawn_whole}
+use Rattle.dashes.specs.declared.dasher.DashOp.{DashOp}
+use Rattle.dashes.specs.declared.dasher.DashOp.TheVariants.{Done, Continue, Emit, Stroke}
+use Rattle.dashes.specs.declared.dasher.Dasher.{Dasher}
+use Rattle.dashes.specs.declared.dasher.Range.{Range}
+use Rattle.dashes.specs.PatternValues.{values}
+use Rattle.dashes.specs.Dashers.{next_of}
+use Rattle.dashes.specs.Patterns.{Dashes}
+use Rattle.dashes.specs.Walks.{Within}
+use Rattle.stroke.specs.declared.calls.Drawn.{Drawn}
+use Rattle.stroke.specs.declared.stroker.Stroker.{Stroker}
+use Rattle.stroke.specs.Events.{Plan}
+use Rattle.stroke.specs.Outlines.{outline}
+use Rattle.stroke.specs.Ranges.{dash_of}
+use Rattle.stroke.specs.Calls.{Action, clears, stores, ends, steps, draws, run_actions, run_by_run}
+use Rattle.stroke.specs.Outcomes.{Stage, perform}
 
--- what its outlines are drawn by
-abbrev pub outliner_of : {S B K : Type 0} → Stroker S B K → Outliner S K
-outliner_of s = record { sink = s.sink; host = s.host; sent = s.sent; nib = s.nib }
+-- What a stroker goes by, which nothing that it does alters: its host's functions, its nib, its budget, and the names of its references.
+pub record Ways : Type 0 where
+  pub functions : Functions
+  pub nib : Nib
+  pub budget : ℕ
+  pub names : ℕ × (ℕ × ℕ)
 
--- so many actions can be counted: none sends a command and reads an end
-abbrev pub FitsAll : {S B K : Type 0} → Stroker S B K → List Action → Type 0
-FitsAll s actions = s.sent + s.ended + length actions < 2 ^ 63
+-- A stroke under way, with what it goes by.
+pub record Stroking (S B K : Type 0) : Type 0 where
+  pub stage : Stage S B K
+  pub by : Ways
 
-abbrev pub stage_of : {S B K : Type 0} → Stroker S B K → Option Reason → Stage S B K
-stage_of s stop = record { sink = s.sink.now; storage = s.storage.now; host = s.host.now; sent = s.sent; taken = s.steps.taken; ended = s.ended; stop = stop }
+abbrev pub stroking : {S B K : Type 0} → HostActs K → Stroker S B K → Option Reason → Stroking S B K
+stroking hosts s stop = record {
+  stage = record { sink = s.sink.now; storage = s.storage.now; host = s.host.now; taken = s.steps.taken; ended = s.ended; stop = stop };
+  by = record { functions = hosts.functions s.host.now; nib = s.nib; budget = s.steps.budget; names = (s.sink.ghost_name, (s.storage.ghost_name, s.host.ghost_name)) };
+}
 
 -- why a stroke stopped, by the answer
 abbrev pub stop_of : {X : Type 0} → Result X Reason → Option Reason
 stop_of (Ok x) = None
 stop_of (Err why) = Some why
 
--- what collecting a run answers, with a refusal that is the stroke's
-abbrev pub taken_in : Result (Option Bool) Full → Result (Option Bool) Reason
-taken_in (Ok end) = Ok end
-taken_in (Err e) = Err StorageFull
+-- Something to do with the run at hand, by functions and nib.
+abbrev pub Work : Type 0
+Work = Functions → Nib → List Segment → List Action
 
--- an outliner has drawn nothing, whatever it asked
-pub record Undrawn {S K : Type 0} (a b : Outliner S K) : Type 0 where
-  pub sink : b.sink.now ≡ a.sink.now
-  pub sent : b.sent ≡ a.sent
-  pub same : Same a b
+module _ {S B K : Type 0} (sinks : SinkActs S) (storages : StorageActs B) (hosts : HostActs K) where
+  -- these actions, up to the first refusal
+  unfoldable pub do_all : List Action → Stroking S B K → Stroking S B K
+  do_all actions d = record d { stage = perform sinks storages hosts d.by.budget actions d.stage }
 
--- a stroker keeps its references, its nib and its budget
-pub record Kept {S B K : Type 0} (a b : Stroker S B K) : Type 0 where
-  pub outliner : Same (outliner_of a) (outliner_of b)
-  pub storage : b.storage.ghost_name ≡ a.storage.ghost_name
-  pub budget : b.steps.budget ≡ a.steps.budget
+  abbrev pub work : Work → Stroking S B K → Stroking S B K
+  work W d = do_all (W d.by.functions d.by.nib (storages.held d.stage.storage)) d
 
--- one stroker came from another by these actions, up to the first refusal
-pub record Performed {S B K : Type 0} (sinks : SinkActs S) (storages : StorageActs B) (hosts : HostActs K)
-    (a b : Stroker S B K) (actions : List Action) (stop : Option Reason) : Type 0 where
-  pub performed : stage_of b stop ≡ perform sinks storages hosts a.steps.budget actions (stage_of a None)
-  pub kept : Kept a b
+-- one action
+abbrev pub acting : Action → Work
+acting a F nib xs = a ∷ []
+
+-- the run's outline
+abbrev pub plain : Bool → Work
+plain closed F nib xs = map draws (outline closed xs F nib)
+
+-- the run, plain or with a pattern
+abbrev pub run_work : Option Dashes → Bool → Work
+run_work pattern closed F nib xs = run_actions F nib pattern closed xs
+
+-- a dash of it
+abbrev pub dash : Range → Work
+dash r F nib xs = map draws (dash_of xs r F nib)
+
+-- what a walk gives is drawn
+abbrev pub op_actions : DashOp → Work
+op_actions Done F nib xs = []
+op_actions Continue F nib xs = []
+op_actions (Emit r) F nib xs = dash r F nib xs
+op_actions Stroke F nib xs = plain true F nib xs
+
+-- and whether the walk goes on after it
+abbrev pub goes_on : DashOp → Bool
+goes_on Done = false
+goes_on Continue = true
+goes_on (Emit r) = true
+goes_on Stroke = false
+
+-- what a dasher gives next
+abbrev pub next_op : Dasher → List Segment → DashOp
+next_op d xs = (next_of (values d.pattern) xs d.walk).op
+
+-- and the dasher after it
+abbrev pub walked_on : Dasher → List Segment → Dasher
+walked_on d xs = record { pattern = d.pattern; walk = (next_of (values d.pattern) xs d.walk).after }
+
+-- Dashes are drawn of a run on which they lie, and which is short enough for its places to be counted from both ends.
+abbrev pub Drawable : ℕ → DashOp → Type 0
+Drawable n (Emit r) = Within n r × (n < 2 ^ 63)
+Drawable n Done = Unit {0}
+Drawable n Continue = Unit {0}
+Drawable n Stroke = Unit {0}
+
+-- one step of its walk along the run
+abbrev pub dash_step : Dasher → Work
+dash_step d F nib xs = steps ∷ op_actions (next_op d xs) F nib xs
+
+-- a dasher after that step, and whether its walk goes on
+pub record Walked (d : Dasher) (xs : List Segment) (d' : Dasher) (more : Bool) : Type 0 where
+  pub after : d' ≡ walked_on d xs
+  pub goes_on : more ≡ goes_on (next_op d xs)
+
+-- what a cursor gives: a segment is stored, and at an end the run is drawn and the storage emptied
+abbrev pub taking : Option Dashes → Segment → Work
+taking pattern (Line i l) F nib xs = stores (Line i l) ∷ []
+taking pattern (Curve i k) F nib xs = stores (Curve i k) ∷ []
+taking pattern (End closed) F nib xs = ends ∷ (run_actions F nib pattern closed xs ++ (clears ∷ []))
+
+-- all that the commands give, run by run
+abbrev pub whole : Option Dashes → List Command → Work
+whole pattern cs F nib xs = clears ∷ run_by_run F nib pattern [] (drawn_whole F true cs)
+
+-- a drawing that has ended, with what it was lent
+abbrev pub drawn_to : {S B K : Type 0} → Drawn → S → B → K → Stage S B K
+drawn_to d s b k = record { sink = s; storage = b; host = k; taken = d.steps; ended = d.ended; stop = stop_of d.answer }

@@ -2,18 +2,12 @@
 #![tactic(auto)]
 
 pub mod calls;
-mod closed;
-mod collect;
-mod dash;
-mod dots;
-mod ends;
+mod caps;
+mod counted;
 mod outline;
 mod outliner;
-mod parts;
-mod passes;
+mod ring;
 mod row;
 mod stretch;
 mod stroker;
-mod strokes;
 pub mod tally;
-mod walks;

@@ -1,78 +1,56 @@
-ghost use Rattle.std.specs.Prelude.{◌≡◌, ◌^◌, ◌<◌, ◌≤◌, [], ◌∷◌, map, length, Bool, true, is_ok, Some, Ok, option_map, neg_ℤ, pos, ◌≤ℤ◌, ◌<ℤ◌};
-ghost use Rattle.cursor.specs.Cursors.{seen, rest};
-ghost use Rattle.cursor.specs.Drawings.{still, drawn_whole};
-ghost use Rattle.cursor.specs.Giving.{left};
+ghost use Rattle.std.specs.Prelude.{◌≡◌, ◌+◌, ◌^◌, ◌<◌, ◌≤◌, length, None, Some, IfOk, option_map};
 ghost use Rattle.dashes.specs.PatternValues.{values};
 ghost use Rattle.dashes.specs.StepCounts.{most_steps, none_taken};
-ghost use Rattle.dashes.specs.Walks.{Within, emits};
-ghost use Rattle.stroke.specs.Calls.{clears, ends, draws, steps as one_step, dash_actions, run_actions, run_by_run};
-ghost use Rattle.stroke.specs.Collecting.{collected, gather};
+ghost use Rattle.dashes.specs.Walks.{Within};
+ghost use Rattle.segments.specs.declared.segment.Segment.TheVariants.{End};
+ghost use Rattle.stroke.specs.Calls.{steps, stores};
 ghost use Rattle.stroke.specs.Outcomes.{why_not};
-ghost use Rattle.stroke.specs.Outlines.{outline};
-ghost use Rattle.stroke.specs.Runs.{twice_place};
-ghost use Rattle.stroke.specs.Strokers.{FitsAll, Performed, stop_of, Undrawn, taken_in};
+ghost use Rattle.stroke.specs.Strokers.{Drawable, Walked, acting, dash, dash_step, goes_on, op_actions, plain, run_work, stop_of, stroking, taking, whole, work};
 
-use crate::collect::collect;
 use crate::outliner::Outliner;
 use crate::row::Run;
 use cursor::cursor::Segments;
 use dashes::dasher::{DashOp, Dasher, Range};
 use dashes::pattern::Pattern;
 use dashes::steps::Steps;
-use lent::Full;
 use maths::host::MathsHost;
 use path::command::Command;
 use path::refusal::Reason;
 use pen::nib::Nib;
+use segments::segment::Segment;
 use sinks::sink::{Refused, Sink};
 use storage::storage::Storage;
 
-// What draws a path: where its commands go, whom it asks, the storage for the run at hand, how many
-// commands were taken, the nib, the dash steps taken, and how many ends were read. An outliner is made for
-// each outline: in a struct within a struct a caller's references are not told apart.
+// What draws a path: where its commands go, whom it asks, the storage for the run at hand, the nib, the
+// dash steps taken, and how many ends were read. An outliner is made for each outline: in a struct within
+// a struct a caller's references are not told apart.
 #[derive(Drop)]
 pub(crate) struct Stroker<'a, S, B, K> {
     pub(crate) sink: &'a mut S,
     pub(crate) host: &'a mut K,
     pub(crate) storage: &'a mut B,
-    pub(crate) sent: u64,
     pub(crate) nib: Nib,
     pub(crate) steps: Steps,
     pub(crate) ended: usize,
 }
 
-// What an outliner's refusal means for a stroke.
+// What an outliner's answer means for a stroke.
 fn refused_by_sink(r: Result<(), Refused>) -> Result<(), Reason>
-    ensures { stop_of result ≡ why_not (is_ok r) }
+    ensures { stop_of result ≡ why_not r }
 {
     match r {
         Ok(()) => Ok(()),
-        Err(_) => Err(Reason::SinkRefused),
+        Err(Refused) => Err(Reason::SinkRefused),
     }
 }
 
-// What a storage's refusal means for a stroke.
-fn refused_by_storage(r: Result<Option<bool>, Full>) -> Result<Option<bool>, Reason>
-    ensures { result ≡ taken_in r }
+// Whether a walk goes on after it gave this.
+fn goes_on(op: DashOp) -> bool
+    ensures { result ≡ goes_on op }
 {
-    match r {
-        Ok(end) => Ok(end),
-        Err(_) => Err(Reason::StorageFull),
-    }
-}
-
-// Of a place on a run of so many segments, counted from the run's end where it is below 0, the place in
-// the run written twice.
-fn twice_place(len: usize, place: isize) -> usize
-    requires low { neg_ℤ (pos len) ≤ℤ place }
-    requires high { place <ℤ pos len }
-    requires few { len < 2 ^ 63 }
-    ensures { result ≡ twice_place len place }
-{
-    if place < 0 {
-        len - place.unsigned_abs()
-    } else {
-        len + place as usize
+    match op {
+        DashOp::Done | DashOp::Stroke => false,
+        DashOp::Continue | DashOp::Emit(_) => true,
     }
 }
 
@@ -85,13 +63,12 @@ impl<'a, S: Sink, B: Storage, K: MathsHost> Stroker<'a, S, B, K> {
         storage: &'a mut B,
         host: &'a mut K,
     ) -> Stroker<'a, S, B, K>
-        ensures { result ≡ record { sink = sink.entry; host = host.entry; sent = 0; nib = nib; storage = storage.entry; steps = none_taken budget; ended = 0 } }
+        ensures { result ≡ record { sink = sink.entry; host = host.entry; nib = nib; storage = storage.entry; steps = none_taken budget; ended = 0 } }
     {
         Stroker {
             sink,
             host,
             storage,
-            sent: 0,
             nib,
             steps: Steps::new(budget),
             ended: 0,
@@ -100,8 +77,10 @@ impl<'a, S: Sink, B: Storage, K: MathsHost> Stroker<'a, S, B, K> {
 
     // One dash step.
     fn spend(&mut self) -> Result<(), Reason>
-        ensures performed { Performed S.acts B.acts K.acts self.old self.new (one_step ∷ []) (stop_of result) }
-        ensures stored { self.new.storage.now ≡ self.old.storage.now }
+        ensures {
+            stroking K.acts self.new (stop_of result)
+                ≡ work S.acts B.acts K.acts (acting steps) (stroking K.acts self.old None)
+        }
     {
         match self.steps.spend() {
             Ok(()) => Ok(()),
@@ -109,24 +88,35 @@ impl<'a, S: Sink, B: Storage, K: MathsHost> Stroker<'a, S, B, K> {
         }
     }
 
+    // One segment more of the run.
+    fn store(&mut self, segment: Segment) -> Result<(), Reason>
+        ensures {
+            stroking K.acts self.new (stop_of result)
+                ≡ work S.acts B.acts K.acts (acting (stores segment)) (stroking K.acts self.old None)
+        }
+    {
+        match self.storage.push(segment) {
+            Ok(()) => Ok(()),
+            Err(_) => Err(Reason::StorageFull),
+        }
+    }
+
     // The outline of the run that the storage holds.
     fn draw_plain(&mut self, closed: bool) -> Result<(), Reason>
-        requires { FitsAll self.old (map draws (outline (K.acts.functions self.old.host.now) self.old.nib closed (B.acts.held self.old.storage.now))) }
-        ensures { Performed S.acts B.acts K.acts self.old self.new (map draws (outline (K.acts.functions self.old.host.now) self.old.nib closed (B.acts.held self.old.storage.now))) (stop_of result) }
+        ensures {
+            stroking K.acts self.new (stop_of result)
+                ≡ work S.acts B.acts K.acts (plain closed) (stroking K.acts self.old None)
+        }
     {
         let mut outliner = Outliner {
             sink: self.sink,
             host: self.host,
-            sent: self.sent,
             nib: self.nib,
         };
-        let drawn = outliner.stroke_segments(
-            &Run {
-                storage: self.storage,
-            },
-            closed,
-        );
-        self.sent = outliner.sent;
+        let run = Run {
+            storage: self.storage,
+        };
+        let drawn = outliner.stroke_segments(&run, closed);
         refused_by_sink(drawn)
     }
 
@@ -134,32 +124,61 @@ impl<'a, S: Sink, B: Storage, K: MathsHost> Stroker<'a, S, B, K> {
     fn draw_dash(&mut self, range: Range) -> Result<(), Reason>
         requires within { Within (length (B.acts.held self.old.storage.now)) range }
         requires few { length (B.acts.held self.old.storage.now) < 2 ^ 63 }
-        requires room { FitsAll self.old (dash_actions (K.acts.functions self.old.host.now) self.old.nib (B.acts.held self.old.storage.now) (emits range)) }
-        ensures performed { Performed S.acts B.acts K.acts self.old self.new (dash_actions (K.acts.functions self.old.host.now) self.old.nib (B.acts.held self.old.storage.now) (emits range)) (stop_of result) }
-        ensures stored { self.new.storage.now ≡ self.old.storage.now }
-        ensures counted { self.new.steps ≡ self.old.steps }
+        ensures {
+            stroking K.acts self.new (stop_of result)
+                ≡ work S.acts B.acts K.acts (dash range) (stroking K.acts self.old None)
+        }
     {
-        let len = self.storage.len();
-        let from = twice_place(len, range.start);
-        let to = twice_place(len, range.end);
         let mut outliner = Outliner {
             sink: self.sink,
             host: self.host,
-            sent: self.sent,
             nib: self.nib,
         };
-        let drawn = outliner.dash_segments(self.storage, from, to, range.t0, range.t1);
-        self.sent = outliner.sent;
+        let drawn = outliner.dash_segments(self.storage, range);
         refused_by_sink(drawn)
+    }
+
+    #[tactic(auto, using(crate::proofs::Performing::do_none))]
+    // What a dasher gave.
+    fn draw_op(&mut self, op: DashOp) -> Result<(), Reason>
+        requires { Drawable (length (B.acts.held self.old.storage.now)) op }
+        ensures {
+            stroking K.acts self.new (stop_of result)
+                ≡ work S.acts B.acts K.acts (op_actions op) (stroking K.acts self.old None)
+        }
+    {
+        match op {
+            DashOp::Done | DashOp::Continue => Ok(()),
+            DashOp::Emit(range) => self.draw_dash(range),
+            DashOp::Stroke => self.draw_plain(true),
+        }
+    }
+
+    // One step along the run; answers whether the walk goes on.
+    fn dash_step(&mut self, dasher: &mut Dasher) -> Result<bool, Reason>
+        ensures drew {
+            stroking K.acts self.new (stop_of result)
+                ≡ work S.acts B.acts K.acts (dash_step dasher.old) (stroking K.acts self.old None)
+        }
+        ensures walked {
+            IfOk result (Walked dasher.old (B.acts.held self.old.storage.now) dasher.new)
+        }
+    {
+        self.spend()?;
+        let op = dasher.next(self.storage);
+        self.draw_op(op)?;
+        Ok(goes_on(op))
     }
 
     // The dashes of the run that the storage holds.
     fn draw_dashed(&mut self, pattern: Pattern, closed: bool) -> Result<(), Reason>
         requires some { 0 < length (B.acts.held self.old.storage.now) }
-        requires few { length (B.acts.held self.old.storage.now) < 2 ^ 63 }
         requires budget { self.old.steps.budget ≤ most_steps }
-        requires room { FitsAll self.old (run_actions (K.acts.functions self.old.host.now) self.old.nib (Some (values pattern)) closed (B.acts.held self.old.storage.now)) }
-        ensures { Performed S.acts B.acts K.acts self.old self.new (run_actions (K.acts.functions self.old.host.now) self.old.nib (Some (values pattern.entry)) closed (B.acts.held self.old.storage.now)) (stop_of result) }
+        ensures {
+            stroking K.acts self.new (stop_of result)
+                ≡ work S.acts B.acts K.acts (run_work (Some (values pattern.entry)) closed)
+                    (stroking K.acts self.old None)
+        }
     {
         let mut dasher = Dasher::init(closed, pattern);
         while dasher.seeks() {
@@ -167,22 +186,21 @@ impl<'a, S: Sink, B: Storage, K: MathsHost> Stroker<'a, S, B, K> {
             dasher.seek();
         }
         loop {
-            self.spend()?;
-            match dasher.next(self.storage) {
-                DashOp::Done => return Ok(()),
-                DashOp::Continue => {}
-                DashOp::Emit(range) => self.draw_dash(range)?,
-                DashOp::Stroke => return self.draw_plain(true),
+            let more = self.dash_step(&mut dasher)?;
+            if !more {
+                return Ok(());
             }
         }
     }
 
     // The run that the storage holds, plain or with a pattern; an empty one does nothing.
     fn draw_run(&mut self, pattern: Option<Pattern>, closed: bool) -> Result<(), Reason>
-        requires few { length (B.acts.held self.old.storage.now) < 2 ^ 63 }
         requires budget { self.old.steps.budget ≤ most_steps }
-        requires room { FitsAll self.old (run_actions (K.acts.functions self.old.host.now) self.old.nib (option_map values pattern) closed (B.acts.held self.old.storage.now)) }
-        ensures { Performed S.acts B.acts K.acts self.old self.new (run_actions (K.acts.functions self.old.host.now) self.old.nib (option_map values pattern.entry) closed (B.acts.held self.old.storage.now)) (stop_of result) }
+        ensures {
+            stroking K.acts self.new (stop_of result)
+                ≡ work S.acts B.acts K.acts (run_work (option_map values pattern.entry) closed)
+                    (stroking K.acts self.old None)
+        }
     {
         if self.storage.len() == 0 {
             return Ok(());
@@ -193,15 +211,36 @@ impl<'a, S: Sink, B: Storage, K: MathsHost> Stroker<'a, S, B, K> {
         }
     }
 
-    // At an end that was read.
+    // At an end that was read the run is drawn, and the storage emptied for the next one.
     fn end_run(&mut self, pattern: Option<Pattern>, closed: bool) -> Result<(), Reason>
-        requires few { length (B.acts.held self.old.storage.now) < 2 ^ 63 }
         requires budget { self.old.steps.budget ≤ most_steps }
-        requires room { FitsAll self.old (ends ∷ run_actions (K.acts.functions self.old.host.now) self.old.nib (option_map values pattern) closed (B.acts.held self.old.storage.now)) }
-        ensures { Performed S.acts B.acts K.acts self.old self.new (ends ∷ run_actions (K.acts.functions self.old.host.now) self.old.nib (option_map values pattern.entry) closed (B.acts.held self.old.storage.now)) (stop_of result) }
+        requires few { self.old.ended + 1 < 2 ^ 64 }
+        ensures {
+            stroking K.acts self.new (stop_of result)
+                ≡ work S.acts B.acts K.acts (taking (option_map values pattern.entry) (End closed))
+                    (stroking K.acts self.old None)
+        }
     {
         self.ended += 1;
-        self.draw_run(pattern, closed)
+        self.draw_run(pattern, closed)?;
+        self.storage.clear();
+        Ok(())
+    }
+
+    // What the cursor gave: a segment for the run at hand, or its end.
+    fn take(&mut self, pattern: Option<Pattern>, segment: Segment) -> Result<(), Reason>
+        requires budget { self.old.steps.budget ≤ most_steps }
+        requires few { self.old.ended + 1 < 2 ^ 64 }
+        ensures {
+            stroking K.acts self.new (stop_of result)
+                ≡ work S.acts B.acts K.acts (taking (option_map values pattern.entry) segment)
+                    (stroking K.acts self.old None)
+        }
+    {
+        match segment {
+            Segment::End(closed) => self.end_run(pattern, closed),
+            Segment::Line(..) | Segment::Curve(..) => self.store(segment),
+        }
     }
 
     // All that the commands give, run by run.
@@ -211,16 +250,19 @@ impl<'a, S: Sink, B: Storage, K: MathsHost> Stroker<'a, S, B, K> {
         pattern: Option<Pattern>,
     ) -> Result<(), Reason>
         requires budget { self.old.steps.budget ≤ most_steps }
-        requires room { FitsAll self.old (clears ∷ run_by_run (K.acts.functions self.old.host.now) self.old.nib (option_map values pattern) [] (drawn_whole (K.acts.functions self.old.host.now) true commands.now)) }
-        ensures { Performed S.acts B.acts K.acts self.old self.new (clears ∷ run_by_run (K.acts.functions self.old.host.now) self.old.nib (option_map values pattern.entry) [] (drawn_whole (K.acts.functions self.old.host.now) true commands.now)) (stop_of result) }
+        requires fresh { self.old.ended ≡ 0 }
+        requires few { length commands.now ≤ 4096 }
+        ensures {
+            stroking K.acts self.new (stop_of result)
+                ≡ work S.acts B.acts K.acts (whole (option_map values pattern.entry) commands.now)
+                    (stroking K.acts self.old None)
+        }
     {
         let mut cursor = Segments::new(true);
-        loop {
-            let end = collect(&mut cursor, commands, self.storage, self.host);
-            match refused_by_storage(end)? {
-                Some(closed) => self.end_run(pattern, closed)?,
-                None => return self.draw_run(pattern, false),
-            }
+        self.storage.clear();
+        while let Some(segment) = cursor.next(commands, self.host) {
+            self.take(pattern, segment)?;
         }
+        self.draw_run(pattern, false)
     }
 }

@@ -1,15 +1,19 @@
-use Rattle.std.proofs.Common.{◌≡◌, map, reverse, take}
-use Rattle.stroke.specs.Outlines.{backward, other_side, last_side}
-use Rattle.stroke.specs.Rings.{other_sides_on}
-use Rattle.stroke.proofs.Drawn.{Leads}
+use Rattle.std.proofs.Common.{◌≡◌, Ok, true, take}
+use Rattle.stroke.specs.Events.{draw}
+use Rattle.stroke.specs.Outlines.{onward, other_sides, other_sides_on, last_side}
+use Rattle.stroke.specs.Outliners.{stage}
 use Rattle.stroke.proofs.outliner.Outliner.walk_back.Given as goal
 
 -- what is left to draw, from here, ends as all of it does from the start
 abbrev pub invariant-loop-i : goal.invariant-loop-i
 invariant-loop-i g l =
+    let sinks = g.S.Sink.acts in
     let hosts = g.K.MathsHost.acts in
     let row = g.R.Row.pieces l.row in
     let all = other_sides_on l.fn.self.nib row in
-    let left = map (other_side l.self.nib) (reverse (take l.i row)) in
-    (last_side l.last left ≡ last_side l.fn.before all)
-    × Leads g.S.Sink.acts g.K.MathsHost.acts l.fn.self (backward (hosts.functions l.fn.self.host.now) l.fn.self.nib l.fn.before all) l.self (backward (hosts.functions l.self.host.now) l.self.nib l.last left)
+    let left = other_sides l.fn.self.nib (take l.i row) in
+    record {
+      nib : l.self.nib ≡ l.fn.self.nib;
+      last : last_side l.last left ≡ last_side l.fn.before all;
+      drawn : draw sinks hosts (onward true l.last left) (stage hosts l.self (Ok tt)) ≡ draw sinks hosts (onward true l.fn.before all) (stage hosts l.fn.self (Ok tt));
+    }

@@ -1,144 +1,69 @@
-use Rattle.std.proofs.Common.{[], refl, ap, ◌∙◌, arith}
-use Rattle.dashes.specs.declared.dasher.DashOp.{DashOp}
-use Rattle.dashes.specs.declared.dasher.DashOp.TheVariants.{Continue}
+use Rattle.std.proofs.Common.{Some, None, sym, refl, ap, ◌∙◌, arith}
 use Rattle.dashes.specs.declared.dasher.Dasher.{Dasher}
-use Rattle.dashes.specs.declared.steps.Steps.{Steps}
-use Rattle.dashes.specs.Dashers.{sought, next_of}
+use Rattle.dashes.specs.declared.dasher.DashOp.TheVariants.{Continue}
 use Rattle.dashes.specs.PatternValues.{values}
-use Rattle.dashes.specs.Walks.{walking, dash_walk, emits, strokes}
-use Rattle.stroke.proofs.Performing.{stopped_by, passed_on}
-use Rattle.stroke.proofs.Dashing.{seek_more, seek_last, seek_done, walk_last, walk_more, walk_done, walk_stroke, walk_emit, step_taken, step_along, step_refused, along_by, walk_begins, dash_fits, dash_along, dash_refused, last_dash, walk_over}
+use Rattle.stroke.specs.Strokers.{stroking, next_op, walked_on, goes_on}
+use Rattle.stroke.proofs.Dashing.{passed_on, seek_steps, walk_steps, walk_begins, seek_done, walks_on, walk_over, step_along, step_refused, stepped}
 use Rattle.stroke.proofs.stroker.Stroker.draw_dashed.Goals as goal
 
 pub loop-self-init : goal.loop-self-init
 loop-self-init g c =
-    walk_begins c.args.self.now (values c.args.pattern) c.args.closed c.init-dasher.result c.requires.some c.requires.budget
-    (ap (λ (d : Dasher). values d.pattern) c.init-dasher.ensures.walk) (ap (λ (d : Dasher). d.walk) c.init-dasher.ensures.walk) c.requires.room
+    walk_begins g.S.Sink.acts g.B.Storage.acts g.K.MathsHost.acts (values c.args.pattern) c.args.closed c.init-dasher.result c.args.self.now c.requires.some c.requires.budget
+    (ap (λ (d : Dasher). values d.pattern) c.init-dasher.ensures.walk) (ap (λ (d : Dasher). d.walk) c.init-dasher.ensures.walk)
 
 pub returns-in_err-spend : goal.returns-in_err-spend
 returns-in_err-spend g c =
-    let xs = g.B.Storage.acts.held c.args.self.now.storage.now in
-    let d = c.loop-self.dasher in
+    let hosts = g.K.MathsHost.acts in
     let why = c.in_err-spend.field-0.0 in
-    stopped_by (passed_on c.from_residual.result why c.from_residual.ensures.0 c.from_residual.ensures.1)
-    (step_refused (λ n. dash_walk n d xs) (λ n. dash_walk n (record { pattern = d.pattern; walk = sought (values d.pattern) d.walk }) xs) why
-    (seek_last d xs c.seeks.result c.seeks.ensures c.loop-self-test.true) (seek_more d xs c.seeks.result c.seeks.ensures c.loop-self-test.true refl) c.loop-self.invariant c.in_err-spend.ensures.performed)
+    ap (stroking hosts c.spend.new.self) (passed_on c.from_residual.result why c.from_residual.ensures.0 c.from_residual.ensures.1)
+    ∙ step_refused g.S.Sink.acts g.B.Storage.acts hosts (λ xs. Continue) (seek_steps c.loop-self.dasher c.seeks.result c.seeks.ensures c.loop-self-test.true refl) _ c.loop-self.self c.spend.new.self why c.loop-self.invariant c.in_err-spend.ensures
 
 pub loop-self-smaller : goal.loop-self-smaller
 loop-self-smaller g c =
-    let p = c.in_ok-spend.ensures.performed in
-    omega (arith, (step_taken p).0, (step_taken p).1, p.kept.budget)
+    let k = stepped g.S.Sink.acts g.B.Storage.acts g.K.MathsHost.acts (λ xs. Continue) c.loop-self.self c.spend.new.self c.in_ok-spend.ensures in
+    omega (arith, k.room, k.taken, k.budget)
 
 pub loop-self-preserved : goal.loop-self-preserved
 loop-self-preserved g c =
-    let xs = g.B.Storage.acts.held c.args.self.now.storage.now in
-    let d = c.loop-self.dasher in
-    step_along (λ n. dash_walk n d xs) (λ n. dash_walk n c.seek.new.self xs) (seek_more d xs c.seeks.result c.seeks.ensures c.loop-self-test.true c.seek.ensures.after)
-    c.loop-self.invariant c.in_ok-spend.ensures.performed c.in_ok-spend.ensures.stored
+    step_along g.S.Sink.acts g.B.Storage.acts g.K.MathsHost.acts (λ xs. Continue) (seek_steps c.loop-self.dasher c.seeks.result c.seeks.ensures c.loop-self-test.true c.seek.ensures.after) _ c.loop-self.self c.spend.new.self c.loop-self.invariant c.in_ok-spend.ensures
 
-pub loop-dasher-init : goal.loop-dasher-init
-loop-dasher-init g c =
-    let xs = g.B.Storage.acts.held c.args.self.now.storage.now in
-    let d = c.loop-self.dasher in
-    along_by (λ n. dash_walk n d xs) (λ n. walking n (values d.pattern) xs Continue d.walk) (seek_done d xs c.seeks.result c.seeks.ensures c.loop-self-test.false) c.loop-self.invariant
+pub loop-more-init : goal.loop-more-init
+loop-more-init g c = seek_done g.S.Sink.acts g.B.Storage.acts g.K.MathsHost.acts c.loop-self.dasher _ c.loop-self.self c.seeks.result c.seeks.ensures c.loop-self-test.false c.loop-self.invariant
 
-pub returns-in_err-spend-2 : goal.returns-in_err-spend-2
-returns-in_err-spend-2 g c =
-    let xs = g.B.Storage.acts.held c.args.self.now.storage.now in
-    let d = c.loop-dasher.dasher in
-    let next = next_of (values d.pattern) xs d.walk in
-    let why = c.in_err-spend-2.field-0.0 in
-    stopped_by (passed_on c.from_residual-in_err-spend-2.result why c.from_residual-in_err-spend-2.ensures.0 c.from_residual-in_err-spend-2.ensures.1)
-    (step_refused (λ n. walking n (values d.pattern) xs Continue d.walk) (λ n. walking n (values d.pattern) xs next.op next.after) why
-    (walk_last (values d.pattern) xs d.walk) (walk_more d xs refl refl refl) c.loop-dasher.invariant c.in_err-spend-2.ensures.performed)
+pub returns-in_err-more : goal.returns-in_err-more
+returns-in_err-more g c =
+    let hosts = g.K.MathsHost.acts in
+    let why = c.in_err-more.field-0.0 in
+    let refusal = c.from_residual-in_err-more in
+    ap (stroking hosts c.dash_step.new.self) (passed_on refusal.result why refusal.ensures.0 refusal.ensures.1)
+    ∙ step_refused g.S.Sink.acts g.B.Storage.acts hosts (next_op c.loop-more.dasher) (walk_steps c.loop-more.dasher) _ c.loop-more.self c.dash_step.new.self why c.loop-more.invariant c.in_err-more.ensures.drew
 
-pub returns-in-Done : goal.returns-in-Done
-returns-in-Done g c =
-    let xs = g.B.Storage.acts.held c.args.self.now.storage.now in
-    let d = c.loop-dasher.dasher in
-    let p = values c.next.new.self.pattern in
-    let w = c.next.new.self.walk in
-    let run = ap g.B.Storage.acts.held (c.in_ok-spend-2.ensures.stored ∙ c.loop-dasher.invariant.stored) in
-    let mid = step_along (λ n. walking n (values d.pattern) xs Continue d.walk) (λ n. walking n p xs c.next.result w) (walk_more d xs run c.next.ensures.op c.next.ensures.after)
-    c.loop-dasher.invariant c.in_ok-spend-2.ensures.performed c.in_ok-spend-2.ensures.stored in
-    walk_over (λ n. walking n p xs c.next.result w) (λ n. walk_done n p xs w c.in-Done.is) mid
+pub loop-more-smaller : goal.loop-more-smaller
+loop-more-smaller g c =
+    let k = stepped g.S.Sink.acts g.B.Storage.acts g.K.MathsHost.acts (next_op c.loop-more.dasher) c.loop-more.self c.dash_step.new.self c.in_ok-more.ensures.drew in
+    omega (arith, k.room, k.taken, k.budget)
 
-pub loop-dasher-smaller-in-Continue : goal.loop-dasher-smaller-in-Continue
-loop-dasher-smaller-in-Continue g c =
-    let p = c.in_ok-spend-2.ensures.performed in
-    omega (arith, (step_taken p).0, (step_taken p).1, p.kept.budget)
+pub returns-then-not-more : goal.returns-then-not-more
+returns-then-not-more g c =
+    let sinks = g.S.Sink.acts in
+    let storages = g.B.Storage.acts in
+    let hosts = g.K.MathsHost.acts in
+    let d = c.loop-more.dasher in
+    let b = c.dash_step.new.self in
+    let drew = c.in_ok-more.ensures.drew in
+    let stored = ap storages.held (sym (stepped sinks storages hosts (next_op d) c.loop-more.self b drew).stored) in
+    walk_over sinks storages hosts d _ b _ (c.in_ok-more.ensures.walked.goes_on ∙ ap (λ xs. goes_on (next_op d xs)) stored) c.if-not-more.true
+    (step_along sinks storages hosts (next_op d) (walk_steps d) _ c.loop-more.self b c.loop-more.invariant drew)
 
-pub loop-dasher-preserved-in-Continue : goal.loop-dasher-preserved-in-Continue
-loop-dasher-preserved-in-Continue g c =
-    let xs = g.B.Storage.acts.held c.args.self.now.storage.now in
-    let d = c.loop-dasher.dasher in
-    let p = values c.next.new.self.pattern in
-    let w = c.next.new.self.walk in
-    let run = ap g.B.Storage.acts.held (c.in_ok-spend-2.ensures.stored ∙ c.loop-dasher.invariant.stored) in
-    let mid = step_along (λ n. walking n (values d.pattern) xs Continue d.walk) (λ n. walking n p xs c.next.result w) (walk_more d xs run c.next.ensures.op c.next.ensures.after)
-    c.loop-dasher.invariant c.in_ok-spend-2.ensures.performed c.in_ok-spend-2.ensures.stored in
-    along_by (λ n. walking n p xs c.next.result w) (λ n. walking n p xs Continue w) (λ n. ap (λ (o : DashOp). walking n p xs o w) c.in-Continue.is) mid
-
-pub draw_dash-requires-clause-room : goal.draw_dash-requires-clause-room
-draw_dash-requires-clause-room g c =
-    let xs = g.B.Storage.acts.held c.args.self.now.storage.now in
-    let d = c.loop-dasher.dasher in
-    let p = values c.next.new.self.pattern in
-    let w = c.next.new.self.walk in
-    let run = ap g.B.Storage.acts.held (c.in_ok-spend-2.ensures.stored ∙ c.loop-dasher.invariant.stored) in
-    let mid = step_along (λ n. walking n (values d.pattern) xs Continue d.walk) (λ n. walking n p xs c.next.result w) (walk_more d xs run c.next.ensures.op c.next.ensures.after)
-    c.loop-dasher.invariant c.in_ok-spend-2.ensures.performed c.in_ok-spend-2.ensures.stored in
-    dash_fits g.met.K.MathsHost.same (λ n. walking n p xs c.next.result w) (λ n. walking n p xs Continue w) (emits c.in-Emit.range) (walk_emit p xs w c.in-Emit.range c.in-Emit.is) mid
-
-pub loop-dasher-smaller : goal.loop-dasher-smaller
-loop-dasher-smaller g c =
-    let p = c.in_ok-spend-2.ensures.performed in
-    let counted = c.draw_dash.ensures.counted in
-    omega (arith, (step_taken p).0, (step_taken p).1, p.kept.budget, ap (λ (s : Steps). s.taken) counted, ap (λ (s : Steps). s.budget) counted)
-
-pub loop-dasher-preserved : goal.loop-dasher-preserved
-loop-dasher-preserved g c =
-    let xs = g.B.Storage.acts.held c.args.self.now.storage.now in
-    let d = c.loop-dasher.dasher in
-    let p = values c.next.new.self.pattern in
-    let w = c.next.new.self.walk in
-    let run = ap g.B.Storage.acts.held (c.in_ok-spend-2.ensures.stored ∙ c.loop-dasher.invariant.stored) in
-    let mid = step_along (λ n. walking n (values d.pattern) xs Continue d.walk) (λ n. walking n p xs c.next.result w) (walk_more d xs run c.next.ensures.op c.next.ensures.after)
-    c.loop-dasher.invariant c.in_ok-spend-2.ensures.performed c.in_ok-spend-2.ensures.stored in
-    let e = c.in_ok-draw_dash-in-Emit.ensures in
-    dash_along g.met.K.MathsHost.same (λ n. walking n p xs c.next.result w) (λ n. walking n p xs Continue w) (emits c.in-Emit.range) (walk_emit p xs w c.in-Emit.range c.in-Emit.is) mid e.performed e.stored e.counted
-
-pub returns-in_err-draw_dash-in-Emit : goal.returns-in_err-draw_dash-in-Emit
-returns-in_err-draw_dash-in-Emit g c =
-    let xs = g.B.Storage.acts.held c.args.self.now.storage.now in
-    let d = c.loop-dasher.dasher in
-    let p = values c.next.new.self.pattern in
-    let w = c.next.new.self.walk in
-    let run = ap g.B.Storage.acts.held (c.in_ok-spend-2.ensures.stored ∙ c.loop-dasher.invariant.stored) in
-    let mid = step_along (λ n. walking n (values d.pattern) xs Continue d.walk) (λ n. walking n p xs c.next.result w) (walk_more d xs run c.next.ensures.op c.next.ensures.after)
-    c.loop-dasher.invariant c.in_ok-spend-2.ensures.performed c.in_ok-spend-2.ensures.stored in
-    let why = c.in_err-draw_dash-in-Emit.field-0.0 in
-    let refusal = c.from_residual-in_err-draw_dash-in-Emit in
-    stopped_by (passed_on refusal.result why refusal.ensures.0 refusal.ensures.1) (dash_refused g.met.K.MathsHost.same (λ n. walking n p xs c.next.result w) (λ n. walking n p xs Continue w) (emits c.in-Emit.range) why (walk_emit p xs w c.in-Emit.range c.in-Emit.is) mid c.in_err-draw_dash-in-Emit.ensures.performed)
-
-pub draw_plain-requires : goal.draw_plain-requires
-draw_plain-requires g c =
-    let xs = g.B.Storage.acts.held c.args.self.now.storage.now in
-    let d = c.loop-dasher.dasher in
-    let p = values c.next.new.self.pattern in
-    let w = c.next.new.self.walk in
-    let run = ap g.B.Storage.acts.held (c.in_ok-spend-2.ensures.stored ∙ c.loop-dasher.invariant.stored) in
-    let mid = step_along (λ n. walking n (values d.pattern) xs Continue d.walk) (λ n. walking n p xs c.next.result w) (walk_more d xs run c.next.ensures.op c.next.ensures.after)
-    c.loop-dasher.invariant c.in_ok-spend-2.ensures.performed c.in_ok-spend-2.ensures.stored in
-    dash_fits g.met.K.MathsHost.same (λ n. walking n p xs c.next.result w) (λ n. []) strokes (λ n. walk_stroke n p xs w c.in-Stroke.is) mid
-
-pub returns-in-Stroke : goal.returns-in-Stroke
-returns-in-Stroke g c =
-    let xs = g.B.Storage.acts.held c.args.self.now.storage.now in
-    let d = c.loop-dasher.dasher in
-    let p = values c.next.new.self.pattern in
-    let w = c.next.new.self.walk in
-    let run = ap g.B.Storage.acts.held (c.in_ok-spend-2.ensures.stored ∙ c.loop-dasher.invariant.stored) in
-    let mid = step_along (λ n. walking n (values d.pattern) xs Continue d.walk) (λ n. walking n p xs c.next.result w) (walk_more d xs run c.next.ensures.op c.next.ensures.after)
-    c.loop-dasher.invariant c.in_ok-spend-2.ensures.performed c.in_ok-spend-2.ensures.stored in
-    last_dash g.met.K.MathsHost.same (λ n. walking n p xs c.next.result w) strokes (λ n. walk_stroke n p xs w c.in-Stroke.is) mid c.draw_plain.ensures
+pub loop-more-preserved : goal.loop-more-preserved
+loop-more-preserved g c =
+    let sinks = g.S.Sink.acts in
+    let storages = g.B.Storage.acts in
+    let hosts = g.K.MathsHost.acts in
+    let d = c.loop-more.dasher in
+    let b = c.dash_step.new.self in
+    let drew = c.in_ok-more.ensures.drew in
+    let stored = ap storages.held (sym (stepped sinks storages hosts (next_op d) c.loop-more.self b drew).stored) in
+    walks_on sinks storages hosts d c.dash_step.new.dasher _ b _ (c.in_ok-more.ensures.walked.after ∙ ap (walked_on d) stored)
+    (c.in_ok-more.ensures.walked.goes_on ∙ ap (λ xs. goes_on (next_op d xs)) stored) c.if-not-more.false
+    (step_along sinks storages hosts (next_op d) (walk_steps d) _ c.loop-more.self b c.loop-more.invariant drew)

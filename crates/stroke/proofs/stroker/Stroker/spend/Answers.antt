@@ -1,15 +1,10 @@
-use Rattle.std.proofs.Common.{is_ok, Some, None, sym, refl, ap, cond, Result}
-use Rattle.path.specs.declared.refusal.Reason.TheVariants.{StepsSpent}
-use Rattle.dashes.specs.declared.steps.Spent.{Spent}
-use Rattle.stroke.proofs.Performing.{spend_performed}
+use Rattle.std.proofs.Common.{sym, ap, ◌∙◌}
+use Rattle.stroke.specs.Strokers.{stroking}
+use Rattle.stroke.proofs.Performing.{spent, spent_stop}
 use Rattle.stroke.proofs.stroker.Stroker.spend.Goals as goal
 
-pub returns-in-Ok-clause-performed : goal.returns-in-Ok-clause-performed
-returns-in-Ok-clause-performed g c =
-    spend_performed g.S.Sink.acts g.B.Storage.acts g.K.MathsHost.acts c.spend.ensures.answer c.spend.ensures.after refl refl refl
-    (sym (ap (λ (r : Result (Unit {0}) Spent). cond (is_ok r) None (Some StepsSpent)) c.in-Ok.is))
+pub returns-in-Ok : goal.returns-in-Ok
+returns-in-Ok g c = ap (λ r. stroking g.K.MathsHost.acts (record c.args.self.now { steps = c.spend.new.self }) (spent_stop r)) (sym c.in-Ok.is) ∙ spent g.S.Sink.acts g.B.Storage.acts g.K.MathsHost.acts c.args.self.now c.spend.ensures.answer c.spend.ensures.after
 
-pub returns-in-Err-clause-performed : goal.returns-in-Err-clause-performed
-returns-in-Err-clause-performed g c =
-    spend_performed g.S.Sink.acts g.B.Storage.acts g.K.MathsHost.acts c.spend.ensures.answer c.spend.ensures.after refl refl refl
-    (sym (ap (λ (r : Result (Unit {0}) Spent). cond (is_ok r) None (Some StepsSpent)) c.in-Err.is))
+pub returns-in-Err : goal.returns-in-Err
+returns-in-Err g c = ap (λ r. stroking g.K.MathsHost.acts (record c.args.self.now { steps = c.spend.new.self }) (spent_stop r)) (sym c.in-Err.is) ∙ spent g.S.Sink.acts g.B.Storage.acts g.K.MathsHost.acts c.args.self.now c.spend.ensures.answer c.spend.ensures.after
