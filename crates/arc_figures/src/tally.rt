@@ -58,11 +58,15 @@ impl fmt::Display for Tally {
             "{} arcs: {} with a curve for each quarter begun, {} with more, {} with fewer, {} whose way does not fit, {} not finite",
             self.arcs, self.as_many, self.more, self.too_few, self.unknown, self.not_finite
         )?;
-        writeln!(f, "  the end off by {} chords", self.at_end)?;
+        writeln!(
+            f,
+            "  the end off by {} of the chord at arc {}",
+            self.at_end, self.at_end.number
+        )?;
         write!(
             f,
-            "  a curve off by {} sizes, {} by more than 1/512",
-            self.on_way, self.past_512th
+            "  {} with a curve off by more than 1/512 of the size; worst {} at arc {}",
+            self.past_512th, self.on_way, self.on_way.number
         )
     }
 }
@@ -70,11 +74,6 @@ impl fmt::Display for Tally {
 impl fmt::Display for Worst {
     fn fmt<W: fmt::Write>(&self, f: &mut fmt::Formatter<W>) -> fmt::Result {
         let units = self.off * 1048576.0;
-        write!(
-            f,
-            "{}/2^20 at arc {}",
-            saturating_f64_to_u64(units.ceil()),
-            self.number
-        )
+        write!(f, "{}/2^20", saturating_f64_to_u64(units.ceil()))
     }
 }

@@ -10,7 +10,7 @@ use path::geometry::{Point, Vector};
 use std::num::{f32_from_bits_with_nan, f32_to_bits_with_nan};
 
 /// The angle that an ellipse is turned by, as its sine and cosine.
-#[derive(Clone, Copy, Debug, PartialEq)]
+#[derive(Clone, Copy, PartialEq)]
 pub struct Turned {
     pub sine: f32,
     pub cosine: f32,
@@ -28,7 +28,7 @@ impl Turned {
 
 /// An arc by its centre: the ellipse's centre and radii, and where on it, as on a circle of radius 1
 /// about 0, the arc begins and ends.
-#[derive(Clone, Copy, Debug, PartialEq)]
+#[derive(Clone, Copy, PartialEq)]
 pub struct Centred {
     pub centre: Point,
     pub radii: Radii,

@@ -61,7 +61,7 @@ fn turn_back(t: Turned, v: Vector) -> Vector
 /// Half of an arc's chord on the circle of radius 1 that its ellipse becomes, as a length and a direction.
 /// The way between the ends and the radii are each multiplied by a power of two that brings them
 /// near 1.
-#[derive(Clone, Copy, Debug, PartialEq)]
+#[derive(Clone, Copy, PartialEq)]
 pub struct HalfChord {
     pub long: f32,
     pub along: Vector,
@@ -124,7 +124,7 @@ impl HalfChord {
 }
 
 /// Half of the turn from one end of an arc to the other by the shorter way.
-#[derive(Clone, Copy, Debug, PartialEq)]
+#[derive(Clone, Copy, PartialEq)]
 pub struct HalfTurn {
     pub sine: f32,
     pub cosine: f32,

@@ -12,7 +12,7 @@ use path::geometry::{Point, Vector};
 
 /// The plane about an arc's chord: what lies so far along the chord, from its middle towards the
 /// arc's start, and so far aside, towards the arc.
-#[derive(Clone, Copy, Debug, PartialEq)]
+#[derive(Clone, Copy, PartialEq)]
 pub struct Frame {
     pub turned: Turned,
     /// Directions on the circle that the ellipse becomes.
@@ -24,7 +24,7 @@ pub struct Frame {
 }
 
 /// A place where the curves of an arc meet, and which way the arc goes there, along its chord and aside.
-#[derive(Clone, Copy, Debug, PartialEq)]
+#[derive(Clone, Copy, PartialEq)]
 pub struct Stop {
     pub point: Point,
     pub way: Vector,

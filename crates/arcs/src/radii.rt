@@ -6,7 +6,7 @@ use numbers::sqrt;
 use path::geometry::Vector;
 
 /// The radii of an ellipse, along its axes.
-#[derive(Clone, Copy, Debug, PartialEq)]
+#[derive(Clone, Copy, PartialEq)]
 pub struct Radii {
     pub x: f32,
     pub y: f32,

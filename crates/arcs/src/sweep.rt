@@ -19,7 +19,7 @@ const QUARTER_BULGE: f32 = 0.551915024494;
 
 /// The angles of an arc: where it begins, how far each curve turns, how far the control points of a
 /// curve lie from its ends on a circle of radius 1, and how many curves there are.
-#[derive(Clone, Copy, Debug, PartialEq)]
+#[derive(Clone, Copy, PartialEq)]
 pub struct Sweep {
     pub start: f32,
     pub each: f32,

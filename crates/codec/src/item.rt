@@ -2,7 +2,7 @@ use path::command::Command;
 use path::style::{Cap, Join};
 
 /// One item of a job: what a letter and the operands after it say.
-#[derive(Clone, Copy, Debug, PartialEq)]
+#[derive(Clone, Copy, PartialEq)]
 pub enum Item {
     /// The stroke's width.
     Width(f32),

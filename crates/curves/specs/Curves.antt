@@ -1,5 +1,5 @@
 -- Cubic curves.
-use Rattle.std.specs.Prelude.{ℕ, zero, suc, ◌+◌, Bool, false, cond, ◌||◌, List, from_bits, nat_le, slice_index_or, Float}
+use Rattle.std.specs.Prelude.{ℕ, zero, suc, ◌+◌, Bool, false, if◌then◌else◌, ◌||◌, List, from_bits, nat_le, slice_index_or, Float}
 use Rattle.std.specs.Float.Ieee.{lt, le}
 use Rattle.std.specs.Float.{float_with_sign, nan, binary32}
 use Rattle.numbers.specs.Arithmetic.{◌⊕◌, ◌⊖◌, ◌⊗◌, ◌⊘◌, one}
@@ -54,7 +54,7 @@ abbrev pub evaluated : Curve → Float → Vector
 evaluated k t = let u = one ⊖ t in blend k (u ⊗ u ⊗ u) (three ⊗ u ⊗ u ⊗ t) (three ⊗ u ⊗ t ⊗ t) (t ⊗ t ⊗ t)
 
 abbrev pub once : Bool → ℕ
-once b = cond b 1 0
+once b = if b then 1 else 0
 
 -- two of the three legs are near
 abbrev pub two_legs_near : Curve → Float → Bool
@@ -97,21 +97,24 @@ chord k = length_of (difference k.d k.a)
 
 -- along the chord, at most to its end
 abbrev pub chord_time : Curve → Float → Float → Float × Float
-chord_time k distance t = cond (le distance (chord k)) (distance, t ⊗ (distance ⊘ chord k)) (chord k, t)
+chord_time k distance t =
+    if le distance (chord k) then (distance, t ⊗ (distance ⊘ chord k)) else (chord k, t)
 
 abbrev pub half : Float
 half = from_bits binary32 0x3F00_0000
 
 -- the second half adds to the first, where that does not reach the distance
 abbrev pub both_halves : Float × Float → Float → Float × Float → Float × Float
-both_halves first distance second = cond (lt first.0 distance) (first.0 ⊕ second.0, first.1 ⊕ second.1) first
+both_halves first distance second =
+    if lt first.0 distance then (first.0 ⊕ second.0, first.1 ⊕ second.1) else first
 
 unfoldable pub timed : ℕ → Curve → Float → Float → Float → Float × Float
 timed zero k distance e t = chord_time k distance t
-timed (suc n) k distance e t = cond (too_curvy k e)
+timed (suc n) k distance e t =
+    if too_curvy k e then
     (let first = timed n (slice_of k zeroᶠ half) distance e (t ⊗ half) in
     both_halves first distance (timed n (slice_of k half one) (distance ⊖ first.0) e (t ⊗ half)))
-    (chord_time k distance t)
+    else chord_time k distance t
 
 abbrev pub curve_time : Curve → Float → Float → SegmentTime
 curve_time k distance e = let r = timed 5 k distance e one in record { distance = r.0; time = r.1 }

@@ -1,5 +1,5 @@
 -- Lines.
-use Rattle.std.specs.Prelude.{cond, Float}
+use Rattle.std.specs.Prelude.{if◌then◌else◌, Float}
 use Rattle.std.specs.Float.{◌≤ᶠ◌}
 use Rattle.std.specs.Float.Ieee.{lt}
 use Rattle.numbers.specs.Arithmetic.{◌⊘◌, zero, one}
@@ -26,7 +26,9 @@ time_at distance time = record { distance = distance; time = time }
 
 -- a distance past the end counts as the end
 abbrev pub line_time : Line → Float → SegmentTime
-line_time l distance = cond (lt (line_length l) distance) (time_at (line_length l) one) (time_at distance (distance ⊘ line_length l))
+line_time l distance =
+    if lt (line_length l) distance then time_at (line_length l) one
+    else time_at distance (distance ⊘ line_length l)
 
 -- a time of a line's points
 abbrev pub FromZeroToOne : Float → Type 0

@@ -15,7 +15,7 @@ const FLAT_ENOUGH: f32 = 0.8071068;
 const LEVELS: u8 = 5;
 
 /// A cubic curve from a to d, with the control points b and c.
-#[derive(Clone, Copy, Debug, PartialEq)]
+#[derive(Clone, Copy, PartialEq)]
 pub struct Curve {
     pub a: Point,
     pub b: Point,

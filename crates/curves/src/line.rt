@@ -7,14 +7,14 @@ use path::geometry::Point;
 
 /// How far along a segment a distance lies: the distance, at most the segment's length, and the time
 /// there. A line's time is from 0 to 1 where its length is above 0, and of length 0 it is NaN at 0.
-#[derive(Clone, Copy, Debug, PartialEq)]
+#[derive(Clone, Copy, PartialEq)]
 pub struct SegmentTime {
     pub distance: f32,
     pub time: f32,
 }
 
 /// A line from a to b.
-#[derive(Clone, Copy, Debug, PartialEq)]
+#[derive(Clone, Copy, PartialEq)]
 pub struct Line {
     pub a: Point,
     pub b: Point,

@@ -14,7 +14,7 @@ use Rattle.numbers.proofs.Patterns.{zero_is}
 use Rattle.dashes.proofs.Rooms.{le_one}
 
 -- the place of the dash that is t gaps on
-abbrev jumps : ℕ → List Float → ℕ → ℕ
+abbrev pub jumps : ℕ → List Float → ℕ → ℕ
 jumps zeroⁿ xs i = i
 jumps (suc t) xs i = jumps t xs (following xs (following xs i))
 
@@ -159,14 +159,24 @@ not_empty xs i g w =
     let place : following xs (jumps w.t xs i) % n ≡ g.k = gap_at w.t xs i ∙ ap (λ (x : ℕ). x % n) w.at ∙ add-mul-mod_self_right g.k w.c n ∙ mod-eq_of_lt g.within in
     ap (λ (k : ℕ). eq (slice_index_or xs k nan) zero) place ∙ g.some
 
+-- so many turns, and the gap that comes then is not empty
+pub record Turns (xs : List Float) (i : ℕ) : Type 0 where
+  pub t : ℕ
+  pub few : t < length xs
+  pub there : empty_after xs (jumps t xs i) ≡ false
+
+pub turns : (xs : List Float) (i : ℕ) → room_between xs ≡ true → i < length xs → (length xs % 2 ≡ 0 → i % 2 ≡ 0) → Turns xs i
+turns xs i room within even =
+    let g = gap_of xs room in
+    let w = comes_round (length xs) i g.k within g.within (λ e. (even e, g.odd e)) in
+    record { t = w.t; few = w.few; there = not_empty xs i g w }
+
 pub joins_all : (xs : List Float) → room_between xs ≡ true → JoinsAll xs
 joins_all xs room i m len within even =
     let n = length xs in
-    let g = gap_of xs room in
-    let w = comes_round n i g.k within g.within (λ e. (even e, g.odd e)) in
-    let some = not_empty xs i g w in
+    let w = turns xs i room within even in
     let few : w.t < n = w.few in
     let first : n + m ≡ w.t + (n - w.t + m) = omega arith in
     let second : n ≡ w.t + (n - w.t) = omega arith in
-    ap (λ (k : ℕ). joined_over k (empty_after xs i) xs i len) first ∙ as_good w.t (n - w.t + m) xs i len some
-    ∙ sym (ap (λ (k : ℕ). joined_over k (empty_after xs i) xs i len) second ∙ as_good w.t (n - w.t) xs i len some)
+    ap (λ (k : ℕ). joined_over k (empty_after xs i) xs i len) first ∙ as_good w.t (n - w.t + m) xs i len w.there
+    ∙ sym (ap (λ (k : ℕ). joined_over k (empty_after xs i) xs i len) second ∙ as_good w.t (n - w.t) xs i len w.there)

@@ -6,3 +6,4 @@ pub mod Ranges
 pub mod Reaching
 pub mod Remainders
 pub mod Rooms
+mod Whole

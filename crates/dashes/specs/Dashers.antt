@@ -1,5 +1,5 @@
 -- The walk of a pattern along a run, one dash or gap after another.
-use Rattle.std.specs.Prelude.{◌≡◌, ℕ, ◌+◌, ◌%◌, Bool, true, false, cond, not, ◌&&◌, List, length, nat_lt, nat_le, Float}
+use Rattle.std.specs.Prelude.{◌≡◌, ℕ, ◌+◌, ◌%◌, ◌<◌, Bool, true, false, cond, not, ◌&&◌, List, length, nat_lt, nat_le, Float}
 use Rattle.std.specs.Float.Ieee.{lt, eq}
 use Rattle.numbers.specs.Arithmetic.{◌⊕◌, ◌⊖◌, zero, one}
 use Rattle.segments.specs.declared.segment.Segment.{Segment}
@@ -11,7 +11,7 @@ use Rattle.dashes.specs.declared.dasher.walk.Course.TheVariants.{Plain, Joined, 
 use Rattle.dashes.specs.declared.dasher.walk.Next.{Next}
 use Rattle.dashes.specs.declared.dasher.walk.Span.{Span}
 use Rattle.dashes.specs.declared.dasher.walk.Walk.{Walk}
-use Rattle.dashes.specs.Patterns.{Dashes, Taken, taken_at}
+use Rattle.dashes.specs.Patterns.{Dashes, Taken, taken_at, length_at}
 use Rattle.dashes.specs.Spans.{reach, reached, range_of}
 use Rattle.curves.specs.Lines.{time_at}
 
@@ -128,6 +128,10 @@ next_of p xs w = cond (goes_on (length xs) w) (one_taken p xs w (taken_by p w)) 
 abbrev pub dash_comes : Walk → Bool
 dash_comes w = cond w.is_first (not w.on) w.on
 
--- Until a walk is over a dash stands at an even place and a gap at an odd one, where the number of lengths is even.
+-- Until a walk is over its next length is one of the pattern's; where the number of lengths is even, a dash stands at an even place and a gap at an odd one.
 abbrev pub InPlace : Dashes → Walk → Type 0
-InPlace p w = w.done ≡ false → length p.lengths % 2 ≡ 0 → w.index % 2 ≡ cond (dash_comes w) 0 1
+InPlace p w = w.done ≡ false → (w.index < length p.lengths) × (length p.lengths % 2 ≡ 0 → w.index % 2 ≡ cond (dash_comes w) 0 1)
+
+-- Until a walk is over it comes to no gap of 0: the dash before it was joined over that.
+abbrev pub IsJoined : Dashes → Walk → Type 0
+IsJoined p w = w.done ≡ false → dash_comes w ≡ false → eq (length_at p.lengths w.index) zero ≡ false

@@ -111,3 +111,11 @@ room_between xs = gap_of_one false xs
 -- from the place of a dash, more turns than there are lengths join nothing more
 abbrev pub JoinsAll : List Float → Type 0
 JoinsAll xs = (i m : ℕ) (len : Float) → i < length xs → (length xs % 2 ≡ 0 → i % 2 ≡ 0) → joined_over (length xs + m) (empty_after xs i) xs i len ≡ joined_over (length xs) (empty_after xs i) xs i len
+
+-- the place of a dash: where the number of lengths is even, an even one
+abbrev pub IsDashPlace : List Float → ℕ → Type 0
+IsDashPlace xs i = (i < length xs) × (length xs % 2 ≡ 0 → i % 2 ≡ 0)
+
+-- After what was taken no gap of 0 comes: it was joined over each.
+abbrev pub IsWhole : List Float → Taken → Type 0
+IsWhole xs d = eq (length_at xs d.next) zero ≡ false

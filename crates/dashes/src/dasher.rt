@@ -9,7 +9,7 @@ mod walk;
 
 /// Where a dash lies on a run: its first and its last segment with a time on each. The first one is
 /// counted from the end of the run where it is below 0, so that -1 is the last segment.
-#[derive(Clone, Copy, Debug, PartialEq)]
+#[derive(Clone, Copy, PartialEq)]
 pub struct Range {
     pub start: isize,
     pub end: isize,
@@ -19,7 +19,7 @@ pub struct Range {
 
 /// What a call of `next` answers: that the walk is over, that it goes on, a dash to be drawn, or that
 /// the whole run is one dash.
-#[derive(Clone, Copy, Debug, PartialEq)]
+#[derive(Clone, Copy, PartialEq)]
 pub enum DashOp {
     Done,
     Continue,
@@ -53,9 +53,9 @@ impl Range {
 }
 
 impl<'a> Dasher<'a> {
-    ghost use Rattle.std.specs.Prelude.{length};
+    ghost use Rattle.std.specs.Prelude.{length, true};
     ghost use Rattle.dashes.specs.PatternValues.{values};
-    ghost use Rattle.dashes.specs.Dashers.{begun, seeks, sought, next_of, InPlace};
+    ghost use Rattle.dashes.specs.Dashers.{begun, seeks, sought, next_of, InPlace, IsJoined};
     ghost use Rattle.dashes.specs.Walks.{GivesWithin, WalksWithin};
 
     /// The walk before its first step, with the first dash of the pattern taken. Whatever run it walks,
@@ -64,6 +64,7 @@ impl<'a> Dasher<'a> {
         ensures walk { result ≡ record { pattern = pattern.entry; walk = begun (values pattern.entry) closed } }
         ensures within { WalksWithin result }
         ensures in_place { InPlace (values pattern.entry) result.walk }
+        ensures joined { IsJoined (values pattern.entry) result.walk }
     {
         Dasher {
             pattern,
@@ -82,6 +83,8 @@ impl<'a> Dasher<'a> {
     pub fn seek(&mut self)
         ensures after { self.new ≡ record { pattern = self.old.pattern; walk = sought (values self.old.pattern) self.old.walk } }
         ensures in_place { InPlace (values self.old.pattern) self.old.walk → InPlace (values self.new.pattern) self.new.walk }
+        ensures joined { self.old.walk.is_first ≡ true → InPlace (values self.old.pattern) self.old.walk
+            → IsJoined (values self.new.pattern) self.new.walk }
     {
         self.walk = self.walk.seek(self.pattern);
     }
@@ -93,6 +96,8 @@ impl<'a> Dasher<'a> {
         ensures after { self.new ≡ record { pattern = self.old.pattern; walk = (next_of (values self.old.pattern) (B.acts.held storage.now) self.old.walk).after } }
         ensures within { GivesWithin (length (B.acts.held storage.now)) result }
         ensures in_place { InPlace (values self.old.pattern) self.old.walk → InPlace (values self.new.pattern) self.new.walk }
+        ensures joined { InPlace (values self.old.pattern) self.old.walk → IsJoined (values self.old.pattern) self.old.walk
+            → IsJoined (values self.new.pattern) self.new.walk }
     {
         let next = self.walk.next(self.pattern, storage);
         self.walk = next.after;

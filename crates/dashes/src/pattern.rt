@@ -6,7 +6,7 @@ use crate::remainder::remainder;
 
 /// The lengths of dashes and gaps in turn, as a stroke can be cut by them. A pattern exists only with 1
 /// to 32 lengths, none below 0, and with room: one length alone is not below 1, and of several one in a
-/// gap's place is at least 1.
+/// gap's place is at least 1. So a dash that is joined over gaps of 0 comes to a gap that is not.
 #[derive(Clone, Copy)]
 pub struct Pattern<'a> {
     lengths: &'a [f32],
@@ -15,6 +15,7 @@ pub struct Pattern<'a> {
     ghost number: { (0 < length lengths.now) × (length lengths.now ≤ 32) },
     ghost none_negative: { IsTrue (not (some negative lengths.now)) },
     ghost room: { IsTrue (room_between lengths.now) },
+    ghost told: { empty_gaps ≡ empty_gap (odd_number lengths.now) false lengths.now },
 }
 
 // A dash or a gap, and the place of the length after it.
@@ -138,8 +139,8 @@ fn offset_within(lengths: &[f32], offset: f32) -> f32
 }
 
 impl<'a> Pattern<'a> {
-    ghost use Rattle.std.specs.Prelude.{option_map, IfSome};
-    ghost use Rattle.dashes.specs.Patterns.{pattern_of, taken_at, JoinsAll};
+    ghost use Rattle.std.specs.Prelude.{option_map, true, IfSome};
+    ghost use Rattle.dashes.specs.Patterns.{pattern_of, taken_at, JoinsAll, IsDashPlace, IsWhole};
     ghost use Rattle.dashes.specs.PatternValues.{values, taken};
 
     /// The pattern of some lengths, begun at an offset; none where the lengths are no pattern. Dashes of
@@ -203,9 +204,10 @@ impl<'a> Pattern<'a> {
         }
     }
 
-    // The dash or gap at a place.
+    // The dash or gap at a place. A dash that was taken at a dash's place goes on over every gap of 0.
     pub(crate) fn take(&self, on: bool, i: usize) -> Taken
-        ensures { taken result ≡ taken_at (values self.now) on i }
+        ensures value { taken result ≡ taken_at (values self.now) on i }
+        ensures whole { on ≡ true → IsDashPlace self.now.lengths.now i → IsWhole self.now.lengths.now (taken result) }
     {
         if on && self.empty_gaps {
             self.joined(i)

@@ -7,7 +7,7 @@ use maths::table::Row;
 use std::num::f32_from_bits_with_nan;
 
 /// How far answers lie from what was expected.
-#[derive(Clone, Copy, Debug, PartialEq, Eq)]
+#[derive(Clone, Copy, PartialEq, Eq)]
 pub struct Figures {
     pub rows: u64,
     /// How many answers are equal bit for bit.

@@ -12,7 +12,7 @@ pub(crate) struct Drawing<'a> {
 }
 
 /// What is no drawing: it begins with neither 0 nor 1, or is cut short.
-#[derive(Clone, Copy, Debug, PartialEq, Eq)]
+#[derive(Clone, Copy, PartialEq, Eq)]
 pub(crate) struct Damaged;
 
 /// The drawings that the bytes hold, one after the other; nothing is read after a damaged one.

@@ -1,5 +1,5 @@
 -- A list, and the places after it.
-use Rattle.std.specs.Prelude.{ℕ, ◌-◌, Bool, cond, List, [], ◌∷◌, ◌++◌, length, take, drop, replicate, Ok, Err, Result, nat_lt, refl}
+use Rattle.std.specs.Prelude.{ℕ, ◌-◌, Bool, if◌then◌else◌, List, [], ◌∷◌, ◌++◌, length, take, drop, replicate, Ok, Err, Result, nat_lt, refl}
 use Rattle.lent.specs.declared.Full.{Full}
 use Rattle.std.specs.Coded.{Coded, code_by, coded×, coded_list}
 
@@ -29,10 +29,10 @@ abbrev pub grown : {X : Type 0} → Places X → X → Places X
 grown p x = record { items = p.items ++ x ∷ []; spare = drop 1 p.spare }
 
 abbrev pub pushed : {X : Type 0} → Places X → X → Places X
-pushed p x = cond (room p) (grown p x) p
+pushed p x = if room p then grown p x else p
 
 abbrev pub push_answer : {X : Type 0} → Places X → Result (Unit {0}) Full
-push_answer p = cond (room p) (Ok tt) (Err (record {}))
+push_answer p = if room p then Ok tt else Err (record {})
 
 abbrev pub cleared : {X : Type 0} → Places X → Places X
 cleared p = record { items = []; spare = p.items ++ p.spare }

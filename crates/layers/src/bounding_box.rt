@@ -7,7 +7,7 @@ use std::marker::Model;
 
 /// The smallest box around some points: its corners are in order. A comparison with NaN is false, so
 /// no corner has one.
-#[derive(Clone, Copy, Debug, PartialEq)]
+#[derive(Clone, Copy, PartialEq)]
 pub struct BoundingBox {
     pub low: Point,
     pub high: Point,

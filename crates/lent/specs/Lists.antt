@@ -1,5 +1,5 @@
 -- The list that a lent slice and a count mean.
-use Rattle.std.specs.Prelude.{ℕ, ◌+◌, ◌-◌, min, Bool, cond, List, length, take, Ok, Err, Result, nat_lt, slice_set}
+use Rattle.std.specs.Prelude.{ℕ, ◌+◌, ◌-◌, min, Bool, if◌then◌else◌, List, length, take, Ok, Err, Result, nat_lt, slice_set}
 use denote.Ref.{MutBor, at_last}
 use Rattle.lent.specs.declared.Full.{Full}
 use Rattle.lent.specs.declared.Lent.{Lent}
@@ -28,7 +28,7 @@ abbrev pub pushed : {X : Type 0} → Lent X → X → Lent X
 pushed l x = record { places = at_last l.places (slice_set l.places.now l.count x); count = l.count + 1 }
 
 abbrev pub push_answer : {X : Type 0} → Lent X → Result (Unit {0}) Full
-push_answer l = cond (room l) (Ok tt) (Err (record {}))
+push_answer l = if room l then Ok tt else Err (record {})
 
 abbrev pub cleared : {X : Type 0} → Lent X → Lent X
 cleared l = record { places = l.places; count = 0 }

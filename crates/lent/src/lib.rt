@@ -15,7 +15,7 @@ pub struct Lent<'a, T> {
 }
 
 /// The answer of a list that has no place left.
-#[derive(Clone, Copy, Debug, PartialEq, Eq)]
+#[derive(Clone, Copy, PartialEq, Eq)]
 pub struct Full;
 
 impl<'a, T: Copy> Lent<'a, T> {

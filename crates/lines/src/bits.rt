@@ -6,11 +6,11 @@ use path::geometry::Point;
 use std::fmt;
 
 /// A number by the eight hexadecimal digits of its bits.
-#[derive(Clone, Copy, Debug, PartialEq)]
+#[derive(Clone, Copy, PartialEq)]
 pub struct Bits(pub f32);
 
 /// A point by its two numbers, with a blank between.
-#[derive(Clone, Copy, Debug, PartialEq)]
+#[derive(Clone, Copy, PartialEq)]
 pub struct PointBits(pub Point);
 
 impl fmt::Display for Bits {

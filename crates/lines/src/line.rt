@@ -9,7 +9,7 @@ use path::refusal::Refusal;
 use std::fmt;
 
 /// One printed line.
-#[derive(Clone, Copy, Debug, PartialEq)]
+#[derive(Clone, Copy, PartialEq)]
 pub enum Line {
     /// An item of a job.
     Item(Item),

@@ -1,5 +1,5 @@
 -- The steps by which a series host works out the arc cosine.
-use Rattle.std.specs.Prelude.{cond, from_bits, Float}
+use Rattle.std.specs.Prelude.{if◌then◌else◌, from_bits, Float}
 use Rattle.std.specs.Float.Ieee.{lt, neg}
 use Rattle.std.specs.Float.{sqrt, nan, binary32, binary64}
 use Rattle.maths.specs.Functions.{in_range}
@@ -21,10 +21,14 @@ end_arc gap = sqrt binary64 (gap ⊕ gap) ⊗ arc_series (gap ⊗ wide 0x3fe0_00
 
 abbrev pub wide_arc : Float → Float
 wide_arc x =
-    cond (lt (wide 0x3fe0_0000_0000_0000) x) (end_arc (wide 0x3ff0_0000_0000_0000 ⊖ x))
-    (cond (lt x (neg (wide 0x3fe0_0000_0000_0000))) (wide 0x4009_21fb_5444_2d18 ⊖ end_arc (wide 0x3ff0_0000_0000_0000 ⊕ x))
-    (wide 0x3ff9_21fb_5444_2d18 ⊖ near_arc x))
+    if lt (wide 0x3fe0_0000_0000_0000) x then end_arc (wide 0x3ff0_0000_0000_0000 ⊖ x)
+    else if lt x (neg (wide 0x3fe0_0000_0000_0000)) then wide 0x4009_21fb_5444_2d18 ⊖ end_arc (wide 0x3ff0_0000_0000_0000 ⊕ x)
+    else wide 0x3ff9_21fb_5444_2d18 ⊖ near_arc x
 
 -- y within its range, or the end of the range that it passes
 abbrev pub kept : Float → Float
-kept y = cond (in_range y) y (cond (lt y (from_bits binary32 0)) (from_bits binary32 0) (cond (lt (from_bits binary32 0x4049_0fdb) y) (from_bits binary32 0x4049_0fdb) nan))
+kept y =
+    if in_range y then y
+    else if lt y (from_bits binary32 0) then from_bits binary32 0
+    else if lt (from_bits binary32 0x4049_0fdb) y then from_bits binary32 0x4049_0fdb
+    else nan

@@ -1,5 +1,5 @@
 -- The steps by which a series host works out sine, cosine and tangent. Angles count in half turns.
-use Rattle.std.specs.Prelude.{ℕ, Bool, cond, from_bits, Float}
+use Rattle.std.specs.Prelude.{ℕ, Bool, if◌then◌else◌, from_bits, Float}
 use Rattle.std.specs.Float.Ieee.{mul, rem, neg, lt}
 use Rattle.std.specs.Float.{binary32, binary64}
 use Rattle.maths.specs.Wide.{◌⊕◌, ◌⊖◌, ◌⊗◌, ◌⊘◌, wide, cubic, quadratic, sextic}
@@ -36,7 +36,7 @@ near x = lt (mul binary32 x x) (from_bits binary32 0x4680_0000)
 
 -- x radians less so many half turns, from the nearest whole turn
 abbrev pub turned : Float → Float → Float
-turned x back = cond (near x) (near_turned x back) (far_turned x back)
+turned x back = if near x then near_turned x back else far_turned x back
 
 -- the sine over r (1 - r²), by z = r²
 abbrev pub sine_series : Float → Float

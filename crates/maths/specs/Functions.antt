@@ -1,5 +1,5 @@
 -- What a maths host answers.
-use Rattle.std.specs.Prelude.{◌≡◌, ℕ, Bool, cond, ◌&&◌, ◌||◌, T, List, codes, from_bits, is_nan, Float}
+use Rattle.std.specs.Prelude.{◌≡◌, ℕ, Bool, if◌then◌else◌, ◌&&◌, ◌||◌, T, List, codes, from_bits, is_nan, Float}
 use Rattle.std.specs.Float.{nan, binary32}
 use Rattle.std.specs.Float.Ieee.{le, fits}
 use Rattle.maths.specs.declared.host.Function.{Function}
@@ -60,7 +60,7 @@ Alike fs gs = (f : Function) (x : Float) → T (fits binary32 x) → apply fs f 
 
 -- asked only at f32, which is all that a program can ask
 abbrev pub restricted : Functions → Functions
-restricted fs = gathered (λ f x. cond (fits binary32 x) (apply fs f x) nan)
+restricted fs = gathered (λ f x. if fits binary32 x then apply fs f x else nan)
 
 abbrev pub AlikeAreEqual : Type 0
 AlikeAreEqual = (fs gs : Functions) → Alike fs gs → restricted fs ≡ restricted gs

@@ -1,5 +1,5 @@
 -- The steps by which a series host works out the power 0.3333333.
-use Rattle.std.specs.Prelude.{◌+◌, ◌/◌, cond, ◌&&◌, pos, to_bits, from_bits, Float}
+use Rattle.std.specs.Prelude.{◌+◌, ◌/◌, if◌then◌else◌, ◌&&◌, pos, to_bits, from_bits, Float}
 use Rattle.std.specs.Float.Ieee.{neg, lt, of_int}
 use Rattle.std.specs.Float.{binary32, binary64}
 use Rattle.maths.specs.Wide.{◌⊖◌, ◌⊗◌, ◌⊘◌, wide, cubic, quadratic, sextic}
@@ -27,7 +27,11 @@ positive_power x = root x (near_root x) ⊗ lean x
 
 -- a NaN and a number below 0 give NaN, an infinity gives infinity
 abbrev pub improper_power : Float → Float
-improper_power x = cond (lt (wide 0xfff0_0000_0000_0000) x && lt x (wide 0)) (wide 0x7ff8_0000_0000_0000) (x ⊗ x)
+improper_power x =
+    if lt (wide 0xfff0_0000_0000_0000) x && lt x (wide 0) then wide 0x7ff8_0000_0000_0000
+    else x ⊗ x
 
 abbrev pub wide_power : Float → Float
-wide_power x = cond (lt (from_bits binary32 0) x && lt x (from_bits binary32 0x7f80_0000)) (positive_power x) (improper_power x)
+wide_power x =
+    if lt (from_bits binary32 0) x && lt x (from_bits binary32 0x7f80_0000) then positive_power x
+    else improper_power x

@@ -1,5 +1,5 @@
 -- The functions that a table of rows gives.
-use Rattle.std.specs.Prelude.{Bool, cond, ◌&&◌, Option, Some, None, List, [], ◌∷◌, ◌==◌, from_bits, to_bits, Float}
+use Rattle.std.specs.Prelude.{Bool, if◌then◌else◌, ◌&&◌, Option, Some, None, List, [], ◌∷◌, ◌==◌, from_bits, to_bits, Float}
 use Rattle.std.specs.Float.{nan, binary32}
 use Rattle.maths.specs.declared.host.Function.{Function}
 use Rattle.maths.specs.declared.host.Function.TheVariants.{Sine, Cosine, ArcCosine, Tangent, Power}
@@ -14,7 +14,7 @@ matches r f x = r.function == numbered f && to_bits binary32 (from_bits binary32
 abbrev pub lawful : Function → Float → Float
 lawful Sine y = y
 lawful Cosine y = y
-lawful ArcCosine y = cond (in_range y) y nan
+lawful ArcCosine y = if in_range y then y else nan
 lawful Tangent y = y
 lawful Power y = y
 
@@ -29,7 +29,7 @@ answered f (Some r) = answer_of r f
 -- the first row that matches answers, and NaN where none does
 abbrev pub looked_up : List Row → Function → Float → Float
 looked_up [] f x = nan
-looked_up (r ∷ rs) f x = cond (matches r f x) (answer_of r f) (looked_up rs f x)
+looked_up (r ∷ rs) f x = if matches r f x then answer_of r f else looked_up rs f x
 
 abbrev pub by_rows : List Row → Functions
 by_rows rs = gathered (looked_up rs)

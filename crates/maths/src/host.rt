@@ -8,7 +8,7 @@ use std::fmt;
 
 /// The functions that a maths host answers, each from `f32` to `f32`. The power is the one with the
 /// exponent 0.3333333, Rust's `powf(0.3333333)`.
-#[derive(Clone, Copy, Debug, PartialEq, Eq)]
+#[derive(Clone, Copy, PartialEq, Eq)]
 pub enum Function {
     Sine = 1,
     Cosine = 2,

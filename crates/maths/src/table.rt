@@ -10,7 +10,7 @@ use crate::host::{Function, MathsHost, in_range, not_a_number};
 use std::num::{f32_from_bits_with_nan, f32_to_bits_with_nan};
 
 /// One answer: a function's number, the bits of its argument, and the bits of what it answers.
-#[derive(Clone, Copy, Debug, PartialEq, Eq)]
+#[derive(Clone, Copy, PartialEq, Eq)]
 pub struct Row {
     // Any byte: a row is what nine bytes say, and one of no function answers nothing.
     pub function: u8,

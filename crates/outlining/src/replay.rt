@@ -1,4 +1,4 @@
-ghost use Rattle.std.specs.Prelude.{drop, take, IfSome, OnOk, Some, ◌≡◌};
+ghost use Rattle.std.specs.Prelude.{drop, length, take, IfSome, OnOk, Some, ◌≡◌};
 ghost use Rattle.job.specs.Sayings.{said_by};
 ghost use Rattle.lines.specs.Listing.{accepted, reported};
 ghost use Rattle.lines.specs.Printing.{text_of};
@@ -77,8 +77,23 @@ fn replay_job<W: Write>(
 {
     let mut places = vec![in heap; Command::Close; setting.places]?;
     let mut segments = vec![in heap; Segment::End(false); setting.segments]?;
-    let mut list = RecordList::new(&mut places);
-    let mut storage = LentStorage::new(&mut segments);
+    replay_in(writer, setting, job, &mut places, &mut segments)
+}
+
+// In places that are lent.
+fn replay_in<W: Write>(
+    writer: &mut W,
+    setting: Setting,
+    job: &Job,
+    places: &mut [Command],
+    segments: &mut [Segment],
+) -> io::Result<()>
+    requires places { length places.old ≡ setting.places }
+    requires segments { length segments.old ≡ setting.segments }
+    ensures { Writes (W.contents writer.old) (W.contents writer.new) result (text_of (replayed_lines (values setting.entry) (accepted job.now))) }
+{
+    let mut list = RecordList::new(places);
+    let mut storage = LentStorage::new(segments);
     let mut host = ByteTable::new(setting.rows);
     let answer = stroke_with_storage(
         job.commands.as_slice(),

@@ -29,7 +29,7 @@ pub struct Setting<'a> {
 }
 
 /// Why some bytes tell no replay.
-#[derive(Clone, Copy, Debug, PartialEq, Eq)]
+#[derive(Clone, Copy, PartialEq, Eq)]
 pub enum Unfit {
     ShortHeader,
     TooManySegments,

@@ -1,5 +1,5 @@
 -- Vectors, step by step in f32.
-use Rattle.std.specs.Prelude.{Bool, false, cond, ◌&&◌, from_bits, Float}
+use Rattle.std.specs.Prelude.{Bool, false, if◌then◌else◌, ◌&&◌, from_bits, Float}
 use Rattle.std.specs.Float.Ieee.{neg, lt, eq}
 use Rattle.std.specs.Float.{float_with_sign, binary32}
 use Rattle.numbers.specs.Arithmetic.{◌⊕◌, ◌⊖◌, ◌⊗◌, ◌⊘◌, root, zero, one}
@@ -25,7 +25,7 @@ length_of v = root (dot_product v v)
 
 -- divided by its length, or zero where that is 0
 abbrev pub normalized : Vector → Vector
-normalized v = cond (eq (length_of v) zero) (vector zero zero) (multiple v (one ⊘ length_of v))
+normalized v = if eq (length_of v) zero then vector zero zero else multiple v (one ⊘ length_of v)
 
 -- both differences are below a bound
 abbrev pub near_by : Vector → Vector → Float → Bool

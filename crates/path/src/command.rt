@@ -1,7 +1,7 @@
 use crate::geometry::Point;
 
 /// One step of a drawing, with the points that it names.
-#[derive(Clone, Copy, Debug, PartialEq)]
+#[derive(Clone, Copy, PartialEq)]
 pub enum Command {
     /// Begins a new subpath at the point.
     MoveTo(Point),

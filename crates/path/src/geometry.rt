@@ -4,7 +4,7 @@ ghost use Rattle.path.specs.Vectors.{vector, sum, difference, multiple, dot_prod
 use numbers::sqrt;
 
 /// A vector of the plane, in f32.
-#[derive(Clone, Copy, Debug, PartialEq)]
+#[derive(Clone, Copy, PartialEq)]
 pub struct Vector {
     pub x: f32,
     pub y: f32,

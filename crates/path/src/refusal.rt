@@ -5,7 +5,7 @@ ghost use Rattle.path.specs.declared.refusal.Reason.TheVariants as reason_is;
 use crate::style;
 
 /// Why a call was refused. Each reason has a fixed number.
-#[derive(Clone, Copy, Debug, PartialEq, Eq)]
+#[derive(Clone, Copy, PartialEq, Eq)]
 pub enum Reason {
     /// There are more than 4,096 commands.
     TooManyCommands = 1,
@@ -52,7 +52,7 @@ impl From<style::UnknownShape> for Reason {
 }
 
 /// What a refused call answers: why, where, and how many commands its sink took before.
-#[derive(Clone, Copy, Debug, PartialEq, Eq)]
+#[derive(Clone, Copy, PartialEq, Eq)]
 pub struct Refusal {
     pub reason: Reason,
     pub place: usize,

@@ -2,7 +2,7 @@ ghost use Rattle.std.specs.Prelude.{◌≡◌};
 ghost use Rattle.path.specs.Styles.{plain, join_number, cap_number, joins, caps, shape_at};
 
 /// How two segments of a stroke are connected.
-#[derive(Clone, Copy, Debug, PartialEq, Eq)]
+#[derive(Clone, Copy, PartialEq, Eq)]
 pub enum Join {
     /// A straight line.
     Bevel = 0,
@@ -37,7 +37,7 @@ impl TryFrom<u8> for Join {
 }
 
 /// The shape at the beginning or the end of a stroke.
-#[derive(Clone, Copy, Debug, PartialEq, Eq)]
+#[derive(Clone, Copy, PartialEq, Eq)]
 pub enum Cap {
     /// Flat, at the end itself.
     Butt = 0,
@@ -71,11 +71,11 @@ impl TryFrom<u8> for Cap {
 }
 
 /// A number that tells no join or cap.
-#[derive(Clone, Copy, Debug, PartialEq, Eq)]
+#[derive(Clone, Copy, PartialEq, Eq)]
 pub struct UnknownShape(pub u8);
 
 /// How a path is stroked. Its dashes are passed beside it.
-#[derive(Clone, Copy, Debug, PartialEq)]
+#[derive(Clone, Copy, PartialEq)]
 pub struct Stroke {
     pub width: f32,
     pub join: Join,

@@ -9,7 +9,7 @@ use path::style::Join;
 
 /// A place where two sides of a stroke come together: the end of one and the start of the next, the
 /// point between them on the path, and the normals of both.
-#[derive(Clone, Copy, Debug, PartialEq)]
+#[derive(Clone, Copy, PartialEq)]
 pub struct Turn {
     pub from: Point,
     pub to: Point,
@@ -19,7 +19,7 @@ pub struct Turn {
 }
 
 /// What shapes a corner. Each case holds exactly where its own condition does and none before it.
-#[derive(Clone, Copy, Debug, PartialEq, Eq)]
+#[derive(Clone, Copy, PartialEq, Eq)]
 pub enum Corner {
     /// The two ends meet.
     Meet,

@@ -13,7 +13,7 @@ const SHORT: f32 = 0.5;
 
 /// A segment moved sideways by the radius: the moved segment with its ends, the normals there, and
 /// the point about which the stroke turns at its end.
-#[derive(Clone, Copy, Debug, PartialEq)]
+#[derive(Clone, Copy, PartialEq)]
 pub struct OffsetSegment {
     pub segment: Segment,
     pub id: SegmentId,

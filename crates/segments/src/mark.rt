@@ -3,7 +3,7 @@ ghost use Rattle.segments.specs.Marks.{marked, after};
 
 /// The mark that all segments of one command share, so that a stroke can tell a corner of the path
 /// from a cut within a curve. Marks go from 0 to 254 and then from 0 again; 255 is no segment's mark.
-#[derive(Clone, Copy, Debug, PartialEq, Eq)]
+#[derive(Clone, Copy, PartialEq, Eq)]
 pub struct SegmentId {
     mark: u8,
 }

@@ -7,7 +7,7 @@ use curves::line::{Line, SegmentTime};
 use path::geometry::{Point, Vector, normal};
 
 /// A piece of a path: a line or a curve, or the end of a subpath, with whether it was closed.
-#[derive(Clone, Copy, Debug, PartialEq)]
+#[derive(Clone, Copy, PartialEq)]
 pub enum Segment {
     Line(SegmentId, Line),
     Curve(SegmentId, Curve),

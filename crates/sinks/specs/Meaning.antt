@@ -1,5 +1,5 @@
 -- What a sink means.
-use Rattle.std.specs.Prelude.{ℕ, ◌-◌, Bool, cond, List, [], ◌∷◌, ◌++◌, Ok, Err, Result, nat_le}
+use Rattle.std.specs.Prelude.{ℕ, ◌-◌, Bool, if◌then◌else◌, List, [], ◌∷◌, ◌++◌, Ok, Err, Result, nat_le}
 use Rattle.path.specs.declared.command.Command.{Command}
 use Rattle.path.specs.Kinds.{Kind, kind}
 use Rattle.sinks.specs.declared.sink.Refused.{Refused}
@@ -19,7 +19,7 @@ abbrev pub joined : Meaning → Command → Meaning
 joined m c = record { list = m.list ++ (m.map c ∷ []); units = m.units - m.price (kind c); price = m.price; map = m.map }
 
 abbrev pub verdict : Meaning → Command → Result (Unit {0}) Refused
-verdict m c = cond (takes m c) (Ok tt) (Err (record {}))
+verdict m c = if takes m c then Ok tt else Err (record {})
 
 -- What a sink does: what it means, and the whole sink with a command taken.
 pub record SinkActs (S : Type 0) : Type 0 where
@@ -32,4 +32,4 @@ meaning_acts = record { meaning = λ m. m; took = joined }
 
 -- a sink after it was sent a command: the one with the command taken, or as it was
 abbrev pub after : {S : Type 0} → SinkActs S → S → Command → S
-after acts s c = cond (takes (acts.meaning s) c) (acts.took s c) s
+after acts s c = if takes (acts.meaning s) c then acts.took s c else s

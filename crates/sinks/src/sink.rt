@@ -9,7 +9,7 @@ use path::command::Command;
 use path::geometry::Point;
 
 /// The sink has fewer units left than the command's price.
-#[derive(Clone, Copy, Debug, PartialEq, Eq)]
+#[derive(Clone, Copy, PartialEq, Eq)]
 pub struct Refused;
 
 /// A sink takes commands. It means its list of commands, the units that it has left, the price of

@@ -1,5 +1,5 @@
 -- What a storage answers, and what it is afterwards.
-use Rattle.std.specs.Prelude.{ℕ, Bool, cond, T, List, [], ◌∷◌, ◌++◌, length, Ok, Err, Result, nat_lt}
+use Rattle.std.specs.Prelude.{ℕ, Bool, if◌then◌else◌, T, List, [], ◌∷◌, ◌++◌, length, Ok, Err, Result, nat_lt}
 use Rattle.segments.specs.declared.segment.Segment.{Segment}
 use Rattle.lent.specs.declared.Full.{Full}
 
@@ -8,7 +8,7 @@ abbrev pub room : List Segment → ℕ → Bool
 room held capacity = nat_lt (length held) capacity
 
 abbrev pub push_answer : List Segment → ℕ → Result (Unit {0}) Full
-push_answer held capacity = cond (room held capacity) (Ok tt) (Err (record {}))
+push_answer held capacity = if room held capacity then Ok tt else Err (record {})
 
 -- What a storage does: the segments that it holds, how many it can hold, and the whole storage after it was cleared and with a segment added.
 pub record StorageActs (B : Type 0) : Type 0 where
@@ -22,7 +22,7 @@ HasRoom acts b = T (room (acts.held b) (acts.capacity b))
 
 -- a storage after it was handed a segment: the one with the segment added, or as it was
 abbrev pub after : {B : Type 0} → StorageActs B → B → Segment → B
-after acts b x = cond (room (acts.held b) (acts.capacity b)) (acts.pushed b x) b
+after acts b x = if room (acts.held b) (acts.capacity b) then acts.pushed b x else b
 
 -- A storage in values: what it holds, and how much it can hold.
 pub record Held : Type 0 where

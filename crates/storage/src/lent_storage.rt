@@ -1,5 +1,5 @@
 ghost use Rattle.std.specs.Prelude.{◌≡◌};
-ghost use Rattle.lent.specs.Lists.{empty, items, cleared, pushed};
+ghost use Rattle.lent.specs.Lists.{items, cleared, pushed};
 ghost use Rattle.storage.specs.Places.{place_count};
 ghost use Rattle.storage.specs.PlacesLemmas.{front_grows};
 ghost use Rattle.std.proofs.Common.{refl, length-set};
@@ -8,52 +8,39 @@ use crate::storage::Storage;
 use lent::{Full, Lent};
 use segments::segment::Segment;
 
-/// A storage in places that the caller lends. The places after the segments keep what they held. By rule
-/// there are two storages, so each hands the four calls on to its list.
-#[derive(Drop)]
-pub struct LentStorage<'a> {
-    lent: Lent<'a, Segment>,
-}
+/// A storage in places that the caller lends, which is the lent list itself. The places after the
+/// segments keep what they held.
+pub type LentStorage<'a> = Lent<'a, Segment>;
 
-impl<'a> LentStorage<'a> {
-    /// The empty storage.
-    pub fn new(places: &'a mut [Segment]) -> LentStorage<'a>
-        ensures { result.lent ≡ empty places.entry }
-    {
-        let lent = Lent::new(places);
-        LentStorage { lent }
-    }
-}
-
-impl<'a> Storage for LentStorage<'a> {
+impl<'a> Storage for Lent<'a, Segment> {
     ghost acts = { record {
-      held = λ s. items s.lent;
-      capacity = λ s. place_count s.lent;
-      cleared = λ s. record { lent = cleared s.lent };
-      pushed = λ s x. record { lent = pushed s.lent x };
+      held = items;
+      capacity = place_count;
+      cleared = cleared;
+      pushed = pushed;
     } };
 
     ghost empties = { λ s. refl };
 
     ghost same_cleared = { λ s. refl };
 
-    ghost grows = { λ s x fits. front_grows s.lent.places.now s.lent.count x fits };
+    ghost grows = { λ s x fits. front_grows s.places.now s.count x fits };
 
-    ghost same_pushed = { λ s x fits. length-set s.lent.places.now s.lent.count x };
+    ghost same_pushed = { λ s x fits. length-set s.places.now s.count x };
 
     fn clear(&mut self) {
-        self.lent.clear();
+        Lent::clear(self);
     }
 
     fn push(&mut self, segment: Segment) -> Result<(), Full> {
-        self.lent.push(segment)
+        Lent::push(self, segment)
     }
 
     fn len(&self) -> usize {
-        self.lent.len()
+        Lent::len(self)
     }
 
     fn get(&self, i: usize) -> Option<Segment> {
-        self.lent.get(i)
+        Lent::get(self, i)
     }
 }

@@ -6,7 +6,7 @@ use stroke::tally::Tally;
 
 /// What a call answers, in numbers.
 #[repr(C)]
-#[derive(Clone, Copy, Debug, PartialEq, Eq)]
+#[derive(Clone, Copy, PartialEq, Eq)]
 pub struct Answer {
     /// How many bytes were written.
     pub length: u64,

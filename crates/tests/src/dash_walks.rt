@@ -97,7 +97,7 @@ fn dashes_along_line(rt: HostRuntime) -> Result<(), AllocError> {
     ];
     for (offset, steps) in [(0.0, 6), (8.0, 6), (-8.0, 8)] {
         let (ranges, taken) = walked(rt.alloc(), false, &[4.0, 4.0], offset, &straight(16.0))?;
-        assert_eq!(rt; ranges.as_slice(), expected.as_slice());
+        assert!(rt; ranges.as_slice() == expected.as_slice());
         assert_eq!(rt; taken, steps);
     }
     Ok(())
@@ -107,10 +107,7 @@ fn dashes_along_line(rt: HostRuntime) -> Result<(), AllocError> {
 #[test]
 fn dashes_along_square(rt: HostRuntime) -> Result<(), AllocError> {
     let (ranges, taken) = walked(rt.alloc(), true, &[12.0, 4.0], 0.0, &square())?;
-    assert_eq!(rt;
-        ranges.as_slice(),
-        [range(2, 3, 0.0, 0.5), range(-1, 1, 1.0, 0.5)].as_slice()
-    );
+    assert!(rt; ranges.as_slice() == [range(2, 3, 0.0, 0.5), range(-1, 1, 1.0, 0.5)].as_slice());
     assert_eq!(rt; taken, 6);
     Ok(())
 }
@@ -125,9 +122,8 @@ fn dash_over_empty_gap(rt: HostRuntime) -> Result<(), AllocError> {
         0.0,
         &straight(16.0),
     )?;
-    assert_eq!(rt;
-        ranges.as_slice(),
-        [range(0, 0, 0.0, 0.4375), range(0, 0, 0.5625, 1.0)].as_slice()
+    assert!(rt;
+        ranges.as_slice() == [range(0, 0, 0.0, 0.4375), range(0, 0, 0.5625, 1.0)].as_slice()
     );
     assert_eq!(rt; taken, 4);
     Ok(())
@@ -164,8 +160,8 @@ fn patterns(rt: HostRuntime) {
 #[test]
 fn steps_are_spent(rt: HostRuntime) {
     let mut steps = Steps::new(2);
-    assert_eq!(rt; steps.spend(), Ok(()));
-    assert_eq!(rt; steps.spend(), Ok(()));
-    assert_eq!(rt; steps.spend(), Err(Spent));
+    assert!(rt; steps.spend() == Ok(()));
+    assert!(rt; steps.spend() == Ok(()));
+    assert!(rt; steps.spend() == Err(Spent));
     assert_eq!(rt; steps.taken(), 2);
 }

@@ -187,7 +187,7 @@ fn ends_that_are_one_point(rt: HostRuntime) {
 }
 
 // The arc of a round join of width 4096, at the corner of M 0 0, L 543 -840, L 1086.41 -1679.46: not alone, and
-// zeno's, which stays at its start, 1.31 from its end.
+// zeno's but for the host, which stays at its start, 1.31 from its end.
 #[test]
 fn a_join_that_misses(rt: HostRuntime) {
     let to = Point::new(-1176.2247, -1952.9106);
@@ -197,9 +197,10 @@ fn a_join_that_misses(rt: HostRuntime) {
     };
     let stays = Point::new(-1176.9338, -1951.8145);
     let few = arc_curves(join, false, &mut SeriesHost::new());
-    assert_eq!(rt;
-        few.as_slice(),
-        [Command::CurveTo(stays, stays, stays)].as_slice()
-    );
+    let Some(Command::CurveTo(_, _, end)) = few.get(0) else {
+        return assert!(rt; false);
+    };
+    assert!(rt; near(end, stays, 0.001));
+    assert!(rt; !near(end, to, 1.0));
     assert_eq!(rt; drawn(join), (1, to));
 }

@@ -33,7 +33,7 @@ fn holds_128(rt: HostRuntime) {
     let mut storage = Storage128::new();
     assert!(rt; holds(&storage, 0));
     assert!(rt; fits(&mut storage, 128));
-    assert_eq!(rt; storage.push(Segment::End(true)), Err(Full));
+    assert!(rt; storage.push(Segment::End(true)) == Err(Full));
     assert!(rt; holds(&storage, 128));
 }
 
@@ -45,7 +45,7 @@ fn clears_128(rt: HostRuntime) {
     storage.clear();
     assert!(rt; holds(&storage, 0));
     assert!(rt; fits(&mut storage, 128));
-    assert_eq!(rt; storage.push(Segment::End(true)), Err(Full));
+    assert!(rt; storage.push(Segment::End(true)) == Err(Full));
 }
 
 // It refuses where the lent slice is full; the place after the slice is as it was.
@@ -55,10 +55,10 @@ fn lent_is_full(rt: HostRuntime) {
     let (front, _) = places.split_at_mut(2);
     let mut storage = LentStorage::new(front);
     assert!(rt; fits(&mut storage, 2));
-    assert_eq!(rt; storage.push(Segment::End(false)), Err(Full));
+    assert!(rt; storage.push(Segment::End(false)) == Err(Full));
     assert!(rt; holds(&storage, 2));
-    assert_eq!(rt; places.get(1).copied(), Some(line(1)));
-    assert_eq!(rt; places.get(2).copied(), Some(Segment::End(true)));
+    assert!(rt; places.get(1).copied() == Some(line(1)));
+    assert!(rt; places.get(2).copied() == Some(Segment::End(true)));
 }
 
 // Cleared, it has all its places again; those past the count keep what they held.
@@ -69,15 +69,15 @@ fn lent_is_cleared(rt: HostRuntime) {
     assert!(rt; fits(&mut storage, 2));
     storage.clear();
     assert!(rt; holds(&storage, 0));
-    assert_eq!(rt; storage.push(Segment::End(false)), Ok(()));
+    assert!(rt; storage.push(Segment::End(false)) == Ok(()));
     assert_eq!(rt; storage.len(), 1);
-    assert_eq!(rt; places, [Segment::End(false), line(1), Segment::End(true)]);
+    assert!(rt; places == [Segment::End(false), line(1), Segment::End(true)]);
     assert!(rt; fits(&mut LentStorage::new(&mut places), 3));
 }
 
 #[test]
 fn lent_nothing(rt: HostRuntime) {
     let mut storage = LentStorage::new(&mut []);
-    assert_eq!(rt; storage.push(Segment::End(true)), Err(Full));
+    assert!(rt; storage.push(Segment::End(true)) == Err(Full));
     assert!(rt; holds(&storage, 0));
 }

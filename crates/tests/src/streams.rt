@@ -6,6 +6,7 @@ use std::test::Fail;
 
 // Gives its bytes one by one, each after a read that a signal broke off; after them it is at its end, or
 // fails.
+#[derive(Drop)]
 struct Dripping<'a> {
     bytes: &'a [u8],
     broken_off: bool,
@@ -34,6 +35,7 @@ impl Read for Dripping<'_> {
 }
 
 // Takes three bytes of a write at most, and so many in all; it fails then.
+#[derive(Drop)]
 struct Narrow {
     taken: Vec<u8>,
     most: usize,

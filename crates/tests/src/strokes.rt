@@ -394,7 +394,7 @@ L 41000000 42040000/L 00000000 42040000/L 00000000 41F80000/Z/= 18 0/"
         for places in 0..6 * runs {
             let (sent, answer) = sent_into(heap, front(&path, 2 * runs), places)?;
             let place = (places / 6 + 1).min(runs - 1);
-            assert_eq!(rt; sent.as_slice(), front(&whole, places));
+            assert!(rt; sent.as_slice() == front(&whole, places));
             assert_eq!(rt; told(answer), Err((8, place, places as u64)));
         }
     }
@@ -501,14 +501,14 @@ fn through_piles(rt: HostRuntime) -> Result<(), Fail> {
     let answer = stroke_into(&path, style, &[4.0], MOST_STEPS, &mut pile, &mut host);
     let below = pile.into_inner();
     let corners = below.bounds().map(|b| (b.low, b.high));
-    assert_eq!(rt; corners, Some((at(10.0, -2.0), at(22.0, 0.0))));
+    assert!(rt; corners == Some((at(10.0, -2.0), at(22.0, 0.0))));
     let list = below.into_inner();
     assert_eq!(rt; left(heap, list.finish(), answer)?.as_str(), MOVED_DASHES);
     let mut places = [Command::Close; 12];
     let mut pile = Bounds::new(Shifted::new(RecordList::new(&mut places), by));
     let answer = stroke_into(&path, style, &[4.0], MOST_STEPS, &mut pile, &mut host);
     let corners = pile.bounds().map(|b| (b.low, b.high));
-    assert_eq!(rt; corners, Some((at(0.0, -1.0), at(12.0, 1.0))));
+    assert!(rt; corners == Some((at(0.0, -1.0), at(12.0, 1.0))));
     let list = pile.into_inner().into_inner();
     assert_eq!(rt; left(heap, list.finish(), answer)?.as_str(), MOVED_DASHES);
     Ok(())
@@ -554,7 +554,7 @@ fn unfit(heap: Global, numbers: [u32; 4], more: usize) -> Result<Option<Unfit>, 
 // The most that a setting may ask for, and one more of each.
 #[test]
 fn settings(rt: HostRuntime) -> Result<(), Fail> {
-    assert_eq!(rt; Setting::read(&[0; 15]).err(), Some(Unfit::ShortHeader));
+    assert!(rt; Setting::read(&[0; 15]).err() == Some(Unfit::ShortHeader));
     for (numbers, more, expected) in [
         ([70_000, 1_048_576, 4_294_967_295, 1], 131_081, None),
         ([70_001, 0, 0, 0], 0, Some(Unfit::TooManySegments)),
@@ -563,7 +563,7 @@ fn settings(rt: HostRuntime) -> Result<(), Fail> {
         ([0, 0, 0, 2], 17, Some(Unfit::ShortRows)),
         ([0, 0, 0, 1], 131_082, Some(Unfit::LongJob)),
     ] {
-        assert_eq!(rt; unfit(rt.alloc(), numbers, more)?, expected);
+        assert!(rt; unfit(rt.alloc(), numbers, more)? == expected);
     }
     Ok(())
 }

@@ -12,7 +12,7 @@ use path::geometry::Point;
 use path::style::{Cap, Join, Stroke};
 
 /// A stroke of width 2 with bevel joins, from the origin on.
-#[derive(Clone, Copy, Debug, PartialEq, Eq)]
+#[derive(Clone, Copy, PartialEq, Eq)]
 pub enum Worked {
     /// Of a line of length 8.
     Line,

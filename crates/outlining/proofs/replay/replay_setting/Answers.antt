@@ -16,7 +16,7 @@ returns-in-Ok g c =
     let says = says_of c.args.setting.job _ _ 4096 32 c.new.ensures c.new-job.ensures (search rules) (search rules) c.in-Ok.ensures.whole in
     subst (λ s. Writes (g.W.Write.contents c.args.writer.now) (g.W.Write.contents c.replay_job.new.writer) c.replay_job.result (text_of (reported (replayed_lines (values c.args.setting)) s))) says c.replay_job.ensures
 
-pub returns-in-Err : goal.returns-in-Err
-returns-in-Err g c =
+pub returns : goal.returns
+returns g c =
     let says = says_of c.args.setting.job _ _ 4096 32 c.new.ensures c.new-job.ensures (search rules) (search rules) c.in-Err.ensures.whole in
     subst (λ s. Writes (g.W.Write.contents c.args.writer.now) (g.W.Write.contents c.print.new.writer) c.print.result (text_of (reported (replayed_lines (values c.args.setting)) s))) says c.print.ensures
