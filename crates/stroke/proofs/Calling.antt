@@ -1,11 +1,11 @@
 -- A stroker at its start, and the call as it is seen from outside.
-use Rattle.std.proofs.Common.{◌≡◌, ℕ, ◌≤◌, true, List, [], ◌∷◌, length, Option, Result, Ok, Err, None, sym, refl, ap, ◌∙◌, arith}
+use Rattle.std.proofs.Common.{◌≡◌, ℕ, cond, List, [], ◌∷◌, Option, Result, Ok, Err, None, is_ok, sym, refl, ap, ◌∙◌}
 use denote.Ref.{MutBor}
 use lib.Ieee.{Float}
 use Rattle.maths.specs.Functions.{Functions, HostActs}
 use Rattle.path.specs.declared.command.Command.{Command}
 use Rattle.path.specs.declared.style.Stroke.{Stroke}
-use Rattle.path.specs.declared.refusal.Reason.{Reason}
+use Rattle.path.specs.declared.refusal.Refusal.{Refusal}
 use Rattle.cursor.specs.Drawings.{drawn_whole}
 use Rattle.pen.specs.declared.nib.Nib.{Nib}
 use Rattle.pen.specs.Nibs.{nib_of}
@@ -15,7 +15,9 @@ use Rattle.sinks.specs.Meaning.{SinkActs}
 use Rattle.storage.specs.Meaning.{StorageActs}
 use Rattle.stroke.specs.declared.stroker.Stroker.{Stroker}
 use Rattle.stroke.specs.Calls.{clears, run_by_run, stroke_actions}
-use Rattle.stroke.specs.Outcomes.{Stage, perform, at_start}
+use Rattle.stroke.specs.Counts.{counted}
+use Rattle.stroke.specs.declared.tally.Tally.{Tally}
+use Rattle.stroke.specs.Outcomes.{Stage, Outcome, Request, admitted_request, answered, outcome, perform, at_start, stroked}
 use Rattle.stroke.specs.Strokers.{Stroking, stroking, do_all, work, whole}
 
 abbrev pub fresh : {S B K : Type 0} → Nib → ℕ → MutBor S → MutBor B → MutBor K → Stroker S B K
@@ -32,3 +34,17 @@ drawn_from_start sinks storages hosts cs style dashes {nib = nib} {budget = budg
     (ap (λ (d : Stroking _ _ _). d.stage) drew ∙ ap (λ (t : Stroker _ _ _). (work sinks storages hosts (whole pattern cs) (stroking hosts t None)).stage) is
       ∙ (λ i. perform sinks storages hosts budget (clears ∷ run_by_run F (nibbed i) (patterned i) [] (drawn_whole F true cs)) (at_start sink.now storage.now host.now)),
       ap (λ (d : Stroking _ _ _). d.by.functions) drew ∙ ap (λ (t : Stroker _ _ _). hosts.functions t.host.now) is)
+
+module _ {S B K : Type 0} (sinks : SinkActs S) (storages : StorageActs B) (hosts : HostActs K) (q : Request) (s : S) (b : B) (k : K) where
+  -- a call that was refused at once did nothing
+  pub refused_call : {e : Refusal} {a : Result Tally Refusal} → admitted_request q ≡ Err e → a ≡ Err e → record { answer = a; sink = s; storage = b; host = k } ≡ stroked sinks storages hosts q s b k
+  unfolding stroked perform
+  refused_call {e = e} refused is =
+      (λ i. record { answer = is i; sink = s; storage = b; host = k })
+      ∙ (λ i. let o = outcome (perform (counted sinks) storages hosts q.budget (cond (is_ok (sym refused i)) (stroke_actions (hosts.functions k) q.commands q.style q.dashes) []) (at_start (s, 0) b k)) in record o { answer = answered (sym refused i) o.answer })
+
+  -- and one that was admitted drew
+  pub admitted_call : {x : Unit {0}} {o : Outcome S B K} → admitted_request q ≡ Ok x → o ≡ outcome (perform (counted sinks) storages hosts q.budget (stroke_actions (hosts.functions k) q.commands q.style q.dashes) (at_start (s, 0) b k)) → o ≡ stroked sinks storages hosts q s b k
+  unfolding stroked
+  admitted_call admitted drew =
+      drew ∙ (λ i. let o = outcome (perform (counted sinks) storages hosts q.budget (cond (is_ok (sym admitted i)) (stroke_actions (hosts.functions k) q.commands q.style q.dashes) []) (at_start (s, 0) b k)) in record o { answer = answered (sym admitted i) o.answer })

@@ -20,7 +20,6 @@ use Rattle.dashes.specs.Walks.{DashEvent, GivesWithin, walking, seeking, dash_wa
 use Rattle.dashes.specs.Walks as walks
 use Rattle.stroke.specs.declared.stroker.Stroker.{Stroker}
 use Rattle.stroke.specs.Calls.{Action, steps, dash_actions, run_actions}
-use Rattle.stroke.specs.Runs.{walk_along}
 use Rattle.stroke.specs.Outcomes.{perform}
 use Rattle.stroke.specs.Strokers.{Stroking, stroking, stop_of, do_all, Work, work, run_work, op_actions, goes_on, next_op, walked_on, Drawable, dash_step}
 use Rattle.stroke.proofs.Performing.{do_none, do_next, do_stopped, step_taken, then_work}
@@ -31,7 +30,7 @@ passed_on (Ok x) why wrong same = absurd cc
 passed_on (Err e) why refused same = ap Some same
 
 -- a run that is not empty
-dashed_run : (F : Functions) (nib : Nib) (p : Dashes) (closed : Bool) (xs : List Segment) → 0 < length xs → run_actions F nib (Some p) closed xs ≡ flat_map (dash_actions F nib xs) (walk_along p closed xs)
+dashed_run : (F : Functions) (nib : Nib) (p : Dashes) (closed : Bool) (xs : List Segment) → 0 < length xs → run_actions F nib (Some p) closed xs ≡ flat_map (dash_actions F nib xs) (seeking most_steps p xs (seeks p (begun p closed)) (begun p closed))
 dashed_run F nib p closed [] some = absurd (omega (arith, some))
 dashed_run F nib p closed (x ∷ xs) some = refl
 

@@ -215,6 +215,10 @@ module _ {S B K : Type 0} (sinks : SinkActs S) (storages : StorageActs B) (hosts
       ap (work sinks storages hosts (runs_left pattern (still_given s cs))) cleared
       ∙ (λ i. record d { stage = perform sinks storages hosts a.steps.budget (run_by_run F a.nib pattern (empties a.storage.now i) (fresh_gives F cs s machine place i)) (record d.stage { storage = storages.cleared a.storage.now }) })
 
+  pub cleared_ended : (a c : Stroker S B K) → stroking hosts c None ≡ work sinks storages hosts (acting clears) (stroking hosts a None) → c.ended ≡ a.ended
+  unfolding do_all perform
+  cleared_ended a c cleared = ap (λ (d : Stroking S B K). d.stage.ended) cleared
+
   -- a segment was taken, or its refusal ends all
   pub taken_on : ((b : B) → storages.held (storages.cleared b) ≡ []) → ((b : B) (x : Segment) → HasRoom storages b → storages.held (storages.pushed b x) ≡ storages.held b ++ (x ∷ []))
       → (pattern : Option Dashes) (T e : Stroking S B K) (b : Stroker S B K) (x : Segment) {o : Option Segment} {given : Functions → List drawings.Event} → Given pattern T b o given → o ≡ Some x

@@ -2,7 +2,7 @@ use Rattle.std.proofs.Common.{option_map, refl, sym, ap, ◌∙◌, arith}
 use Rattle.dashes.specs.PatternValues.{values}
 use Rattle.stroke.specs.Strokers.{stroking, whole}
 use Rattle.stroke.proofs.Dashing.{passed_on}
-use Rattle.stroke.proofs.Running.{runs_left, still_given, fresh_left, starts, asks_next, taken_ended, taken_on, taken_off, ran_out, same_budget}
+use Rattle.stroke.proofs.Running.{runs_left, still_given, fresh_left, cleared_ended, starts, asks_next, taken_ended, taken_on, taken_off, ran_out, same_budget}
 use Rattle.stroke.proofs.stroker.Stroker.stroke.Goals as goal
 
 pub returns-in_err-take : goal.returns-in_err-take
@@ -16,7 +16,7 @@ returns-in_err-take g c =
 
 pub loop-segment-init : goal.loop-segment-init
 loop-segment-init g c = record {
-  few = omega (arith, c.requires.fresh, fresh_left c.args.commands.now c.new-cursor.result c.new-cursor.ensures.machine c.new-cursor.ensures.place);
+  few = omega (arith, c.requires.fresh, cleared_ended g.S.Sink.acts g.B.Storage.acts g.K.MathsHost.acts c.args.self.now c.clear.new.self c.clear.ensures, fresh_left c.args.commands.now c.new-cursor.result c.new-cursor.ensures.machine c.new-cursor.ensures.place);
   leads = starts g.S.Sink.acts g.B.Storage.acts g.K.MathsHost.acts g.met.B.Storage.empties (option_map values c.args.pattern) c.args.commands.now c.new-cursor.result c.args.self.now _ c.new-cursor.ensures.machine c.new-cursor.ensures.place c.clear.ensures;
 }
 
