@@ -130,6 +130,7 @@ fn admit_and_draw<S: Sink, B: Storage, K: MathsHost>(
 }
 
 // How a drawing ended: the steps taken, the ends read, and why it stopped, if it did.
+#[derive(Drop)]
 struct Drawn {
     steps: u32,
     ended: usize,
