@@ -28,8 +28,9 @@ use Rattle.dashes.specs.Walks.{DashEvent, walking, seeking}
 use Rattle.dashes.specs.Walks as walks
 use Rattle.stroke.specs.Outlines.{outline}
 use Rattle.stroke.specs.Calls.{Action, clears, ends, draws, dash_actions, run_actions, run_by_run, stroke_actions}
-use Rattle.stroke.specs.Runs.{twice_place, dash_of, walk_along}
-use Rattle.stroke.proofs.Bounds.{outline_bound, range_bound, stretch_bound}
+use Rattle.stroke.specs.Runs.{walk_along}
+use Rattle.stroke.specs.Ranges.{dash_of}
+use Rattle.stroke.proofs.Bounds.{outline_bound, dash_bound, ranged_bound}
 
 -- ---- what a cursor gives and asks
 
@@ -99,11 +100,8 @@ seeking_few (suc n) p xs true w = omega (arith, seeking_few n p xs (seeks p (sou
 -- the segments of a dash are at most those of its run written twice
 dash_few : (F : Functions) (nib : Nib) (xs : List Segment) (e : DashEvent) → length (dash_actions F nib xs e) ≤ 1 + 110 * length xs
 dash_few F nib xs walks.steps = omega arith
-dash_few F nib xs (walks.emits r) =
-    let from = twice_place (length xs) r.start in
-    let to = twice_place (length xs) r.end in
-    omega (arith, length-map (dash_of F nib xs r) draws, range_bound F nib xs from to r.t0 r.t1, stretch_bound xs from to)
-dash_few F nib xs walks.strokes = omega (arith, length-map (outline F nib true xs) draws, outline_bound F nib true xs)
+dash_few F nib xs (walks.emits r) = omega (arith, length-map (dash_of xs r F nib) draws, dash_bound F nib xs r, ranged_bound xs r)
+dash_few F nib xs walks.strokes = omega (arith, length-map (outline true xs F nib) draws, outline_bound F nib true xs)
 
 each_few : {X Y : Type 0} (f : X → List Y) (m : ℕ) → ((x : X) → length (f x) ≤ m) → (xs : List X) → length (flat_map f xs) ≤ length xs * m
 each_few f m h [] = omega arith
@@ -123,7 +121,7 @@ walk_few F nib p closed (x ∷ xs) =
 -- a walk's 131074 * 111 for each segment
 run_few : (F : Functions) (nib : Nib) (pattern : Option Dashes) (closed : Bool) (xs : List Segment) → length (run_actions F nib pattern closed xs) ≤ 14549214 * length xs
 run_few F nib pattern closed [] = omega arith
-run_few F nib None closed (x ∷ xs) = omega (arith, length-map (outline F nib closed (x ∷ xs)) draws, outline_bound F nib closed (x ∷ xs))
+run_few F nib None closed (x ∷ xs) = omega (arith, length-map (outline closed (x ∷ xs) F nib) draws, outline_bound F nib closed (x ∷ xs))
 run_few F nib (Some p) closed (x ∷ xs) = omega (arith, walk_few F nib p closed (x ∷ xs))
 
 ended_few : (now more : List Action) (n k : ℕ) (a b : Action) → length now ≤ 14549214 * n → length more ≤ 14549216 * k → length (a ∷ (now ++ (b ∷ more))) ≤ 14549214 * n + 14549216 * suc k
