@@ -45,7 +45,7 @@ module _ {S B K S' B' K' : Type 0} (sinks : SinkActs S) (storages : StorageActs 
   -- in both, and still one for so many
   pub record Alike (many : ℕ → S → Type 0) (n : ℕ) (d : Stage S B K) (d' : Stage S' B' K') : Type 0 where
     pub seen : stage_seen f g h d ≡ d'
-    pub many : many n d.sink
+    pub enough : many n d.sink
 
   module _ (many : ℕ → S → Type 0) (see : Sees many) (budget : ℕ) where
     sent_alike : (n : ℕ) (t : Bool) (s : S) (c : Command) → many (suc n) s → (T t → (f (sinks.took s c) ≡ sinks'.took (f s) c) × many n (sinks.took s c))
@@ -58,39 +58,39 @@ module _ {S B K S' B' K' : Type 0} (sinks : SinkActs S) (storages : StorageActs 
     either_many n false d e p q = q
 
     act_alike : (n : ℕ) (a : Action) (d : Stage S B K) → many (suc n) d.sink → Alike many n (act sinks storages hosts budget a d) (act sinks' storages' hosts' budget a (stage_seen f g h d))
-    act_alike n clears d enough = record { seen = λ i. record (stage_seen f g h d) { storage = see.clears_alike d.storage i }; many = see.fewer n d.sink enough }
+    act_alike n clears d enough = record { seen = λ i. record (stage_seen f g h d) { storage = see.clears_alike d.storage i }; enough = see.fewer n d.sink enough }
     act_alike n (stores x) d enough = record {
       seen = seen_either (stage_seen f g h) (room (storages.held d.storage) (storages.capacity d.storage)) _ _ (λ fits. ap (λ (b : B'). record (stage_seen f g h d) { storage = b }) (see.pushes_alike d.storage x fits)) refl
           ∙ (λ i. cond (room (sym (see.holds d.storage) i) (sym (see.capable d.storage) i)) (record (stage_seen f g h d) { storage = storages'.pushed (g d.storage) x }) (record (stage_seen f g h d) { stop = Some StorageFull }));
-      many = either_many n (room (storages.held d.storage) (storages.capacity d.storage)) (record d { storage = storages.pushed d.storage x }) (record d { stop = Some StorageFull }) (see.fewer n d.sink enough) (see.fewer n d.sink enough);
+      enough = either_many n (room (storages.held d.storage) (storages.capacity d.storage)) (record d { storage = storages.pushed d.storage x }) (record d { stop = Some StorageFull }) (see.fewer n d.sink enough) (see.fewer n d.sink enough);
     }
-    act_alike n ends d enough = record { seen = refl; many = see.fewer n d.sink enough }
+    act_alike n ends d enough = record { seen = refl; enough = see.fewer n d.sink enough }
     act_alike n steps d enough = record {
       seen = seen_either (stage_seen f g h) _ _ _ (λ _. refl) refl;
-      many = either_many n _ (record d { taken = d.taken + 1 }) (record d { stop = Some StepsSpent }) (see.fewer n d.sink enough) (see.fewer n d.sink enough);
+      enough = either_many n _ (record d { taken = d.taken + 1 }) (record d { stop = Some StepsSpent }) (see.fewer n d.sink enough) (see.fewer n d.sink enough);
     }
-    act_alike n (draws (asks q)) d enough = record { seen = λ i. record (stage_seen f g h d) { host = see.asks_alike d.host q.0 q.1 i; stop = None }; many = see.fewer n d.sink enough }
+    act_alike n (draws (asks q)) d enough = record { seen = λ i. record (stage_seen f g h d) { host = see.asks_alike d.host q.0 q.1 i; stop = None }; enough = see.fewer n d.sink enough }
     act_alike n (draws (sends c)) d enough =
         let sent = sent_alike n (takes (sinks.meaning d.sink) c) d.sink c enough (see.takes_alike n d.sink c enough) in
         record {
           seen = (λ i. record (stage_seen f g h d) { sink = sent.0 i; stop = why_not (verdict (sinks.meaning d.sink) c) })
               ∙ (λ i. record (stage_seen f g h d) { sink = cond (takes (sym (see.means d.sink) i) c) (sinks'.took (f d.sink) c) (f d.sink); stop = why_not (verdict (sym (see.means d.sink) i) c) });
-          many = sent.1;
+          enough = sent.1;
         }
 
     act_on_alike : (n : ℕ) (stop : Option Reason) (a : Action) (d : Stage S B K) → many (suc n) d.sink
         → Alike many n (act_on sinks storages hosts budget stop a d) (act_on sinks' storages' hosts' budget stop a (stage_seen f g h d))
     act_on_alike n None a d enough = act_alike n a d enough
-    act_on_alike n (Some why) a d enough = record { seen = refl; many = see.fewer n d.sink enough }
+    act_on_alike n (Some why) a d enough = record { seen = refl; enough = see.fewer n d.sink enough }
 
     pub perform_alike : (todo : List Action) (d : Stage S B K) → many (length todo) d.sink
         → Alike many 0 (perform sinks storages hosts budget todo d) (perform sinks' storages' hosts' budget todo (stage_seen f g h d))
     unfolding perform
-    perform_alike [] d enough = record { seen = refl; many = enough }
+    perform_alike [] d enough = record { seen = refl; enough = enough }
     perform_alike (a ∷ more) d enough =
         let one = act_on_alike (length more) d.stop a d enough in
-        let rest = perform_alike more (act_on sinks storages hosts budget d.stop a d) one.many in
-        record { seen = rest.seen ∙ ap (perform sinks' storages' hosts' budget more) one.seen; many = rest.many }
+        let rest = perform_alike more (act_on sinks storages hosts budget d.stop a d) one.enough in
+        record { seen = rest.seen ∙ ap (perform sinks' storages' hosts' budget more) one.seen; enough = rest.enough }
 
 -- ---- whole calls
 

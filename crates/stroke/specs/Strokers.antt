@@ -20,7 +20,6 @@ use Rattle.dashes.specs.declared.steps.Spent.{Spent}
 use Rattle.dashes.specs.Dashers.{next_of}
 use Rattle.dashes.specs.Patterns.{Dashes}
 use Rattle.dashes.specs.Walks.{Within}
-use Rattle.stroke.specs.declared.calls.Drawn.{Drawn}
 use Rattle.stroke.specs.declared.stroker.Stroker.{Stroker}
 use Rattle.stroke.specs.Events.{Plan}
 use Rattle.stroke.specs.Outlines.{outline}
@@ -33,7 +32,7 @@ pub record Ways : Type 0 where
   pub functions : Functions
   pub nib : Nib
   pub budget : ℕ
-  pub names : ℕ × (ℕ × ℕ)
+  pub names : ℕ × ℕ × ℕ
 
 -- A stroke under way, with what it goes by.
 pub record Stroking (S B K : Type 0) : Type 0 where
@@ -43,7 +42,7 @@ pub record Stroking (S B K : Type 0) : Type 0 where
 abbrev pub stroking : {S B K : Type 0} → HostActs K → Stroker S B K → Option Reason → Stroking S B K
 stroking hosts s stop = record {
   stage = record { sink = s.sink.now; storage = s.storage.now; host = s.host.now; taken = s.steps.taken; ended = s.ended; stop = stop };
-  by = record { functions = hosts.functions s.host.now; nib = s.nib; budget = s.steps.budget; names = (s.sink.ghost_name, (s.storage.ghost_name, s.host.ghost_name)) };
+  by = record { functions = hosts.functions s.host.now; nib = s.nib; budget = s.steps.budget; names = (s.sink.ghost_name, s.storage.ghost_name, s.host.ghost_name) };
 }
 
 -- why a stroke stopped, by the answer
@@ -135,7 +134,3 @@ taking pattern (End closed) F nib xs = ends ∷ (run_actions F nib pattern close
 -- all that the commands give, run by run
 abbrev pub whole : Option Dashes → List Command → Work
 whole pattern cs F nib xs = clears ∷ run_by_run F nib pattern [] (drawn_whole F true cs)
-
--- a drawing that has ended, with what it was lent
-abbrev pub drawn_to : {S B K : Type 0} → Drawn → S → B → K → Stage S B K
-drawn_to d s b k = record { sink = s; storage = b; host = k; taken = d.steps; ended = d.ended; stop = stop_of d.answer }

@@ -5,7 +5,7 @@ ghost use Rattle.stroke.specs.Calls.{stroke_actions};
 ghost use Rattle.stroke.specs.Counts.{counted};
 ghost use Rattle.stroke.specs.Histories.{Call, call, History, Lawful, Promised, after_taking, count, row_of};
 ghost use Rattle.stroke.specs.Outcomes.{answer_of, at_start, outcome, perform, request, stroked};
-ghost use Rattle.stroke.specs.Strokers.{drawn_to, stop_of};
+ghost use Rattle.stroke.specs.Strokers.{stop_of};
 
 use crate::counted::Counted;
 use crate::stroker::Stroker;
@@ -117,12 +117,11 @@ fn admit_and_draw<S: Sink, B: Storage, K: MathsHost>(
     storage: &mut B,
     host: &mut K,
 ) -> Result<Tally, Refusal>
-    ensures whole {
+    ensures {
         record { answer = result; sink = sink.new; storage = storage.new; host = host.new }
             ≡ stroked S.acts B.acts K.acts (request commands.now style dashes.now budget)
                 sink.old storage.old host.old
     }
-    ensures functions { K.acts.functions host.new ≡ K.acts.functions host.old }
 {
     admit(commands, style, dashes, budget)?;
     draw_counted(commands, style, dashes, budget, sink, storage, host)
@@ -140,13 +139,12 @@ fn draw_counted<S: Sink, B: Storage, K: MathsHost>(
 ) -> Result<Tally, Refusal>
     requires few { length commands.now ≤ 4096 }
     requires budget { budget ≤ most_steps }
-    ensures whole {
+    ensures {
         record { answer = result; sink = sink.new; storage = storage.new; host = host.new }
             ≡ outcome (perform (counted S.acts) B.acts K.acts budget
                 (stroke_actions (K.acts.functions host.old) commands.now style dashes.now)
                 (at_start (sink.old, 0) storage.old host.old))
     }
-    ensures functions { K.acts.functions host.new ≡ K.acts.functions host.old }
 {
     let mut counted = Counted::new(sink);
     let drawn = draw(commands, style, dashes, budget, &mut counted, storage, host);
@@ -173,13 +171,15 @@ fn draw<'a, S: Sink, B: Storage, K: MathsHost>(
 ) -> Drawn
     requires few { length commands.now ≤ 4096 }
     requires budget { budget ≤ most_steps }
-    ensures drew {
-        drawn_to result sink.new storage.new host.new
+    ensures {
+        record {
+            sink = sink.new; storage = storage.new; host = host.new;
+            taken = result.steps; ended = result.ended; stop = stop_of result.answer
+        }
             ≡ perform S.acts B.acts K.acts budget
                 (stroke_actions (K.acts.functions host.old) commands.now style dashes.now)
                 (at_start sink.old storage.old host.old)
     }
-    ensures functions { K.acts.functions host.new ≡ K.acts.functions host.old }
 {
     let pattern = Pattern::new(dashes, style.offset);
     let nib = Pen::new(style).nib();
