@@ -8,10 +8,9 @@ use crate::writing::write_text;
 use arrayvec::ArrayString;
 use codec::item::Item;
 use path::command::Command;
-use std::fmt;
 use std::fmt::{Display, Write as _};
-use std::io;
 use std::io::Write;
+use std::{fmt, io};
 
 /// What has a line of its own.
 pub trait AsLine: Copy {

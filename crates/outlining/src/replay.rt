@@ -67,12 +67,7 @@ pub fn replay_setting<W: Write>(heap: Global, writer: &mut W, setting: Setting) 
     }
 }
 
-fn replay_job<W: Write>(
-    heap: Global,
-    writer: &mut W,
-    setting: Setting,
-    job: &Job,
-) -> io::Result<()>
+fn replay_job<W: Write>(heap: Global, writer: &mut W, setting: Setting, job: &Job) -> io::Result<()>
     ensures { Writes (W.contents writer.old) (W.contents writer.new) result (text_of (replayed_lines (values setting.entry) (accepted job.now))) }
 {
     let mut places = vec![in heap; Command::Close; setting.places]?;
