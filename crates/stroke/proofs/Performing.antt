@@ -27,16 +27,7 @@ use Rattle.stroke.specs.Outlines.{outline}
 use Rattle.stroke.specs.Ranges.{dash_of}
 use Rattle.stroke.specs.Calls.{Action, clears, stores, ends, steps, draws, run_actions, run_by_run}
 use Rattle.stroke.specs.Outcomes.{Stage, why_not, drawing_of, drawn, act_on, perform}
-use Rattle.stroke.specs.Strokers.{Stroking, stroking, do_all, Work, work, acting, op_actions, taking}
-
--- why a stroke stops where its steps are spent, or its storage is full
-abbrev pub spent_stop : Result (Unit {0}) Spent → Option Reason
-spent_stop (Ok x) = None
-spent_stop (Err e) = Some StepsSpent
-
-abbrev pub full_stop : Result (Unit {0}) Full → Option Reason
-full_stop (Ok x) = None
-full_stop (Err e) = Some StorageFull
+use Rattle.stroke.specs.Strokers.{Stroking, stroking, why_full, why_spent, do_all, Work, work, acting, op_actions, taking}
 
 module _ {S B K : Type 0} (sinks : SinkActs S) (storages : StorageActs B) (hosts : HostActs K) where
   pub perform_append : (n : ℕ) (xs ys : List Action) (d : Stage S B K) → perform sinks storages hosts n (xs ++ ys) d ≡ perform sinks storages hosts n ys (perform sinks storages hosts n xs d)
@@ -68,31 +59,35 @@ module _ {S B K : Type 0} (sinks : SinkActs S) (storages : StorageActs B) (hosts
   less_or_all m n = cond_both (nat_le n m) true false (λ _. nat_lt m n ≡ not (nat_le n m)) (λ e. le-ltb m n (leb-true n m e) ∙ ap not (sym e)) (λ e. lt-ltb m n (leb-false n m e) ∙ ap not (sym e))
 
   one_spent : (full less : Bool) → less ≡ not full → (a : Stroker S B K) →
-      stroking hosts (record a { steps = cond full a.steps (record { taken = a.steps.taken + 1; budget = a.steps.budget }) }) (spent_stop (cond full (Err (record {})) (Ok tt)))
+      stroking hosts (record a { steps = cond full a.steps (record { taken = a.steps.taken + 1; budget = a.steps.budget }) }) (why_spent (cond full (Err (record {})) (Ok tt)))
       ≡ (let d = stroking hosts a None in record d { stage = cond less (record d.stage { taken = a.steps.taken + 1 }) (record d.stage { stop = Some StepsSpent }) })
   one_spent true less is a = let d = stroking hosts a None in λ i. record d { stage = cond (sym is i) (record d.stage { taken = a.steps.taken + 1 }) (record d.stage { stop = Some StepsSpent }) }
   one_spent false less is a = let d = stroking hosts a None in λ i. record d { stage = cond (sym is i) (record d.stage { taken = a.steps.taken + 1 }) (record d.stage { stop = Some StepsSpent }) }
 
   pub spent : (a : Stroker S B K) {t : Steps} {r : Result (Unit {0}) Spent} → r ≡ spend_answer a.steps → t ≡ spent_one a.steps
-      → stroking hosts (record a { steps = t }) (spent_stop r) ≡ work sinks storages hosts (acting steps) (stroking hosts a None)
+      → stroking hosts (record a { steps = t }) (why_spent r) ≡ work sinks storages hosts (acting steps) (stroking hosts a None)
   unfolding do_all perform
   spent a answer after =
-      (λ i. stroking hosts (record a { steps = after i }) (spent_stop (answer i)))
+      (λ i. stroking hosts (record a { steps = after i }) (why_spent (answer i)))
       ∙ one_spent (nat_le a.steps.budget a.steps.taken) (nat_lt a.steps.taken a.steps.budget) (less_or_all a.steps.taken a.steps.budget) a
 
-  -- ---- a segment
+  -- ---- the storage
+
+  pub do_clears : (d : Stroking S B K) → d.stage.stop ≡ None → do_all sinks storages hosts (clears ∷ []) d ≡ record d { stage = record d.stage { storage = storages.cleared d.stage.storage } }
+  unfolding do_all perform
+  do_clears d going = λ i. record d { stage = act_on sinks storages hosts d.by.budget (going i) clears d.stage }
 
   one_stored : (fits : Bool) (x : Segment) (a : Stroker S B K) →
-      stroking hosts (record a { storage = record a.storage { now = cond fits (storages.pushed a.storage.now x) a.storage.now } }) (full_stop (cond fits (Ok tt) (Err (record {}))))
+      stroking hosts (record a { storage = record a.storage { now = cond fits (storages.pushed a.storage.now x) a.storage.now } }) (why_full (cond fits (Ok tt) (Err (record {}))))
       ≡ (let d = stroking hosts a None in record d { stage = cond fits (record d.stage { storage = storages.pushed a.storage.now x }) (record d.stage { stop = Some StorageFull }) })
   one_stored true x a = refl
   one_stored false x a = refl
 
   pub stored : (x : Segment) (a : Stroker S B K) {b : B} {r : Result (Unit {0}) Full} → r ≡ storing.push_answer (storages.held a.storage.now) (storages.capacity a.storage.now) → b ≡ storing.after storages a.storage.now x
-      → stroking hosts (record a { storage = record a.storage { now = b } }) (full_stop r) ≡ work sinks storages hosts (acting (stores x)) (stroking hosts a None)
+      → stroking hosts (record a { storage = record a.storage { now = b } }) (why_full r) ≡ work sinks storages hosts (acting (stores x)) (stroking hosts a None)
   unfolding do_all perform
   stored x a answer after =
-      (λ i. stroking hosts (record a { storage = record a.storage { now = after i } }) (full_stop (answer i)))
+      (λ i. stroking hosts (record a { storage = record a.storage { now = after i } }) (why_full (answer i)))
       ∙ one_stored (room (storages.held a.storage.now) (storages.capacity a.storage.now)) x a
 
   -- ---- an outline

@@ -32,7 +32,7 @@ use Rattle.stroke.specs.Outlines.{outline}
 use Rattle.stroke.specs.Ranges.{dash_of}
 use Rattle.stroke.specs.Runs.{walk_along}
 use Rattle.stroke.specs.Outcomes.{Stage, act_on, perform}
-use Rattle.stroke.specs.Strokers.{Stroking, stroking, do_all, Work, work, run_work, taking, whole}
+use Rattle.stroke.specs.Strokers.{Stroking, stroking, do_all, Work, work, acting, run_work, taking, whole}
 use Rattle.stroke.proofs.Performing.{perform_append, perform_stopped, draws_quiet, do_next, do_stopped, ends_refused}
 
 -- what is still to be done with what a cursor gives
@@ -62,12 +62,11 @@ module _ {S B K : Type 0} (sinks : SinkActs S) (storages : StorageActs B) (hosts
   end_refused pattern closed a c why is =
       ends_refused sinks storages hosts (run_actions (hosts.functions a.host.now) a.nib pattern closed (storages.held a.storage.now)) (clears ∷ []) why (stroking hosts (record a { ended = a.ended + 1 }) None) (stroking hosts c (Some why)) is refl
 
-  pub end_taken : (pattern : Option Dashes) (closed : Bool) (a c : Stroker S B K) {b : B} → b ≡ storages.cleared c.storage.now
-      → stroking hosts c None ≡ work sinks storages hosts (run_work pattern closed) (stroking hosts (record a { ended = a.ended + 1 }) None)
-      → stroking hosts (record c { storage = record c.storage { now = b } }) None ≡ work sinks storages hosts (taking pattern (End closed)) (stroking hosts a None)
+  pub end_taken : (pattern : Option Dashes) (closed : Bool) (a : Stroker S B K) (e f : Stroking S B K) → e ≡ work sinks storages hosts (run_work pattern closed) (stroking hosts (record a { ended = a.ended + 1 }) None)
+      → f ≡ do_all sinks storages hosts (clears ∷ []) e → f ≡ work sinks storages hosts (taking pattern (End closed)) (stroking hosts a None)
   unfolding do_all perform
-  end_taken pattern closed a c cleared is =
-      (λ i. stroking hosts (record c { storage = record c.storage { now = cleared i } }) None) ∙ ap (do_all sinks storages hosts (clears ∷ [])) is
+  end_taken pattern closed a e f is cleared =
+      cleared ∙ ap (do_all sinks storages hosts (clears ∷ [])) is
       ∙ sym (do_next sinks storages hosts (run_actions (hosts.functions a.host.now) a.nib pattern closed (storages.held a.storage.now)) (clears ∷ []) (stroking hosts (record a { ended = a.ended + 1 }) None))
 
   drawn_ended : (n : ℕ) (es : List Event) (more : List Action) (s : Stage S B K) → ((t : Stage S B K) → (perform sinks storages hosts n more t).ended ≡ t.ended)
@@ -207,13 +206,13 @@ module _ {S B K : Type 0} (sinks : SinkActs S) (storages : StorageActs B) (hosts
 
   -- ---- the commands
 
-  pub starts : ((b : B) → storages.held (storages.cleared b) ≡ []) → (pattern : Option Dashes) (cs : List Command) (s : Segments) (a : Stroker S B K) {b : B} → seen s ≡ fresh true → s.place ≡ 0 → b ≡ storages.cleared a.storage.now
-      → work sinks storages hosts (runs_left pattern (still_given s cs)) (stroking hosts (record a { storage = record a.storage { now = b } }) None) ≡ work sinks storages hosts (whole pattern cs) (stroking hosts a None)
+  pub starts : ((b : B) → storages.held (storages.cleared b) ≡ []) → (pattern : Option Dashes) (cs : List Command) (s : Segments) (a : Stroker S B K) (e : Stroking S B K) → seen s ≡ fresh true → s.place ≡ 0
+      → e ≡ work sinks storages hosts (acting clears) (stroking hosts a None) → work sinks storages hosts (runs_left pattern (still_given s cs)) e ≡ work sinks storages hosts (whole pattern cs) (stroking hosts a None)
   unfolding do_all perform
-  starts empties pattern cs s a machine place cleared =
+  starts empties pattern cs s a e machine place cleared =
       let d = stroking hosts a None in
       let F = hosts.functions a.host.now in
-      (λ i. work sinks storages hosts (runs_left pattern (still_given s cs)) (stroking hosts (record a { storage = record a.storage { now = cleared i } }) None))
+      ap (work sinks storages hosts (runs_left pattern (still_given s cs))) cleared
       ∙ (λ i. record d { stage = perform sinks storages hosts a.steps.budget (run_by_run F a.nib pattern (empties a.storage.now i) (fresh_gives F cs s machine place i)) (record d.stage { storage = storages.cleared a.storage.now }) })
 
   -- a segment was taken, or its refusal ends all

@@ -2,7 +2,9 @@
 use Rattle.std.specs.Prelude.{◌≡◌, ℕ, ◌^◌, ◌<◌, Bool, true, false, List, [], ◌∷◌, ◌++◌, map, flat_map, Some, None, Option, Ok, Err, Result}
 use Rattle.maths.specs.Functions.{Functions, HostActs}
 use Rattle.path.specs.declared.command.Command.{Command}
+use Rattle.lent.specs.declared.Full.{Full}
 use Rattle.path.specs.declared.refusal.Reason.{Reason}
+use Rattle.path.specs.declared.refusal.Reason.TheVariants.{StorageFull, StepsSpent}
 use Rattle.segments.specs.declared.segment.Segment.{Segment}
 use Rattle.segments.specs.declared.segment.Segment.TheVariants.{Line, Curve, End}
 use Rattle.sinks.specs.Meaning.{SinkActs}
@@ -14,6 +16,7 @@ use Rattle.dashes.specs.declared.dasher.DashOp.TheVariants.{Done, Continue, Emit
 use Rattle.dashes.specs.declared.dasher.Dasher.{Dasher}
 use Rattle.dashes.specs.declared.dasher.Range.{Range}
 use Rattle.dashes.specs.PatternValues.{values}
+use Rattle.dashes.specs.declared.steps.Spent.{Spent}
 use Rattle.dashes.specs.Dashers.{next_of}
 use Rattle.dashes.specs.Patterns.{Dashes}
 use Rattle.dashes.specs.Walks.{Within}
@@ -47,6 +50,15 @@ stroking hosts s stop = record {
 abbrev pub stop_of : {X : Type 0} → Result X Reason → Option Reason
 stop_of (Ok x) = None
 stop_of (Err why) = Some why
+
+-- why it stops where its storage or its budget answers so
+abbrev pub why_full : Result (Unit {0}) Full → Option Reason
+why_full (Ok x) = None
+why_full (Err e) = Some StorageFull
+
+abbrev pub why_spent : Result (Unit {0}) Spent → Option Reason
+why_spent (Ok x) = None
+why_spent (Err e) = Some StepsSpent
 
 -- Something to do with the run at hand, by functions and nib.
 abbrev pub Work : Type 0

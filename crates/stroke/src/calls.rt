@@ -2,8 +2,9 @@ ghost use Rattle.std.specs.Prelude.{◌≡◌, ◌≤◌, ◌∷◌, List, lengt
 ghost use Rattle.dashes.specs.StepCounts.{most_steps};
 ghost use Rattle.storage.specs.Meaning.{held_acts, empty_held, held_by};
 ghost use Rattle.stroke.specs.Calls.{stroke_actions};
+ghost use Rattle.stroke.specs.Counts.{counted};
 ghost use Rattle.stroke.specs.Histories.{Call, call, History, Lawful, Promised, after_taking, count, row_of};
-ghost use Rattle.stroke.specs.Outcomes.{answer_of, at_start, perform, request, stroked};
+ghost use Rattle.stroke.specs.Outcomes.{answer_of, at_start, outcome, perform, request, stroked};
 ghost use Rattle.stroke.specs.Strokers.{drawn_to, stop_of};
 
 use crate::counted::Counted;
@@ -105,7 +106,7 @@ pub fn stroke_into<S: Sink, K: MathsHost>(
     stroke_with_storage(commands, style, dashes, budget, sink, &mut storage, host)
 }
 
-// The questions first, and then the drawing, onto a layer that counts.
+// The questions first, and then the drawing.
 #[tactic(auto, unfolding(crate::specs::Outcomes::stroked, crate::specs::Outcomes::perform))]
 fn admit_and_draw<S: Sink, B: Storage, K: MathsHost>(
     commands: &[Command],
@@ -124,12 +125,36 @@ fn admit_and_draw<S: Sink, B: Storage, K: MathsHost>(
     ensures functions { K.acts.functions host.new ≡ K.acts.functions host.old }
 {
     admit(commands, style, dashes, budget)?;
-    let mut counted = Counted { sink, sent: 0 };
+    draw_counted(commands, style, dashes, budget, sink, storage, host)
+}
+
+// Onto a layer that counts what the sink takes.
+fn draw_counted<S: Sink, B: Storage, K: MathsHost>(
+    commands: &[Command],
+    style: Stroke,
+    dashes: &[f32],
+    budget: u32,
+    sink: &mut S,
+    storage: &mut B,
+    host: &mut K,
+) -> Result<Tally, Refusal>
+    requires few { length commands.now ≤ 4096 }
+    requires budget { budget ≤ most_steps }
+    ensures whole {
+        record { answer = result; sink = sink.new; storage = storage.new; host = host.new }
+            ≡ outcome (perform (counted S.acts) B.acts K.acts budget
+                (stroke_actions (K.acts.functions host.old) commands.now style dashes.now)
+                (at_start (sink.old, 0) storage.old host.old))
+    }
+    ensures functions { K.acts.functions host.new ≡ K.acts.functions host.old }
+{
+    let mut counted = Counted::new(sink);
     let drawn = draw(commands, style, dashes, budget, &mut counted, storage, host);
     answer(counted.sent, drawn)
 }
 
 // How a drawing ended: the steps taken, the ends read, and why it stopped, if it did.
+#[derive(Clone, Copy)]
 struct Drawn {
     steps: u32,
     ended: usize,

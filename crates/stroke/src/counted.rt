@@ -11,6 +11,14 @@ pub(crate) struct Counted<'a, S> {
     pub(crate) sent: u64,
 }
 
+impl<'a, S> Counted<'a, S> {
+    pub(crate) fn new(sink: &'a mut S) -> Counted<'a, S>
+        ensures { result ≡ record { sink = sink.entry; sent = 0 } }
+    {
+        Counted { sink, sent: 0 }
+    }
+}
+
 impl<'a, S: Sink> Sink for Counted<'a, S> {
     ghost acts = { counting S.acts };
 

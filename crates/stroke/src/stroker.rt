@@ -3,16 +3,17 @@ ghost use Rattle.dashes.specs.PatternValues.{values};
 ghost use Rattle.dashes.specs.StepCounts.{most_steps, none_taken};
 ghost use Rattle.dashes.specs.Walks.{Within};
 ghost use Rattle.segments.specs.declared.segment.Segment.TheVariants.{End};
-ghost use Rattle.stroke.specs.Calls.{steps, stores};
+ghost use Rattle.stroke.specs.Calls.{clears, steps, stores};
 ghost use Rattle.stroke.specs.Outcomes.{why_not};
-ghost use Rattle.stroke.specs.Strokers.{Drawable, Walked, acting, dash, dash_step, goes_on, op_actions, plain, run_work, stop_of, stroking, taking, whole, work};
+ghost use Rattle.stroke.specs.Strokers.{Drawable, Walked, acting, dash, dash_step, goes_on, op_actions, plain, run_work, stop_of, stroking, taking, whole, why_full, why_spent, work};
 
 use crate::outliner::Outliner;
 use crate::row::Run;
 use cursor::cursor::Segments;
 use dashes::dasher::{DashOp, Dasher, Range};
 use dashes::pattern::Pattern;
-use dashes::steps::Steps;
+use dashes::steps::{Spent, Steps};
+use lent::Full;
 use maths::host::MathsHost;
 use path::command::Command;
 use path::refusal::Reason;
@@ -40,7 +41,27 @@ fn refused_by_sink(r: Result<(), Refused>) -> Result<(), Reason>
 {
     match r {
         Ok(()) => Ok(()),
-        Err(Refused) => Err(Reason::SinkRefused),
+        Err(_) => Err(Reason::SinkRefused),
+    }
+}
+
+// What a storage's answer means for a stroke.
+fn refused_by_storage(r: Result<(), Full>) -> Result<(), Reason>
+    ensures { stop_of result ≡ why_full r }
+{
+    match r {
+        Ok(()) => Ok(()),
+        Err(_) => Err(Reason::StorageFull),
+    }
+}
+
+// And that of a budget.
+fn refused_by_budget(r: Result<(), Spent>) -> Result<(), Reason>
+    ensures { stop_of result ≡ why_spent r }
+{
+    match r {
+        Ok(()) => Ok(()),
+        Err(_) => Err(Reason::StepsSpent),
     }
 }
 
@@ -82,10 +103,18 @@ impl<'a, S: Sink, B: Storage, K: MathsHost> Stroker<'a, S, B, K> {
                 ≡ work S.acts B.acts K.acts (acting steps) (stroking K.acts self.old None)
         }
     {
-        match self.steps.spend() {
-            Ok(()) => Ok(()),
-            Err(_) => Err(Reason::StepsSpent),
+        refused_by_budget(self.steps.spend())
+    }
+
+    #[tactic(auto, using(crate::proofs::Performing::do_clears))]
+    // The storage is emptied for a run.
+    fn clear(&mut self)
+        ensures {
+            stroking K.acts self.new None
+                ≡ work S.acts B.acts K.acts (acting clears) (stroking K.acts self.old None)
         }
+    {
+        self.storage.clear();
     }
 
     // One segment more of the run.
@@ -95,10 +124,7 @@ impl<'a, S: Sink, B: Storage, K: MathsHost> Stroker<'a, S, B, K> {
                 ≡ work S.acts B.acts K.acts (acting (stores segment)) (stroking K.acts self.old None)
         }
     {
-        match self.storage.push(segment) {
-            Ok(()) => Ok(()),
-            Err(_) => Err(Reason::StorageFull),
-        }
+        refused_by_storage(self.storage.push(segment))
     }
 
     // The outline of the run that the storage holds.
@@ -223,7 +249,7 @@ impl<'a, S: Sink, B: Storage, K: MathsHost> Stroker<'a, S, B, K> {
     {
         self.ended += 1;
         self.draw_run(pattern, closed)?;
-        self.storage.clear();
+        self.clear();
         Ok(())
     }
 
@@ -259,7 +285,7 @@ impl<'a, S: Sink, B: Storage, K: MathsHost> Stroker<'a, S, B, K> {
         }
     {
         let mut cursor = Segments::new(true);
-        self.storage.clear();
+        self.clear();
         while let Some(segment) = cursor.next(commands, self.host) {
             self.take(pattern, segment)?;
         }

@@ -13,4 +13,4 @@ returns-in_err-draw_run g c =
     ∙ end_refused g.S.Sink.acts g.B.Storage.acts hosts (option_map values c.args.pattern) c.args.closed c.args.self.now c.draw_run.new.self why c.in_err-draw_run.ensures
 
 pub returns : goal.returns
-returns g c = end_taken g.S.Sink.acts g.B.Storage.acts g.K.MathsHost.acts (option_map values c.args.pattern) c.args.closed c.args.self.now c.draw_run.new.self c.clear.ensures c.in_ok-draw_run.ensures
+returns g c = end_taken g.S.Sink.acts g.B.Storage.acts g.K.MathsHost.acts (option_map values c.args.pattern) c.args.closed c.args.self.now _ _ c.in_ok-draw_run.ensures c.clear.ensures

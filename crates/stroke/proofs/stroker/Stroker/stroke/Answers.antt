@@ -17,7 +17,7 @@ returns-in_err-take g c =
 pub loop-segment-init : goal.loop-segment-init
 loop-segment-init g c = record {
   few = omega (arith, c.requires.fresh, fresh_left c.args.commands.now c.new-cursor.result c.new-cursor.ensures.machine c.new-cursor.ensures.place);
-  leads = starts g.S.Sink.acts g.B.Storage.acts g.K.MathsHost.acts g.met.B.Storage.empties (option_map values c.args.pattern) c.args.commands.now c.new-cursor.result c.args.self.now c.new-cursor.ensures.machine c.new-cursor.ensures.place c.clear.ensures;
+  leads = starts g.S.Sink.acts g.B.Storage.acts g.K.MathsHost.acts g.met.B.Storage.empties (option_map values c.args.pattern) c.args.commands.now c.new-cursor.result c.args.self.now _ c.new-cursor.ensures.machine c.new-cursor.ensures.place c.clear.ensures;
 }
 
 pub take-requires-clause-budget : goal.take-requires-clause-budget
