@@ -3,3 +3,4 @@ mod Round
 pub mod Quarters
 mod Turns
 mod Unsigned
+mod Points

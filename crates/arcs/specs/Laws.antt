@@ -1,6 +1,6 @@
 -- What the notes on SVG 1.1's elliptical arc commands say of every arc.
 use Rattle.std.specs.Prelude.{◌≡◌, ℕ, ◌⊎◌, Bool, true, false, ◌&&◌, ◌||◌, not, T, List, [], length, from_bits, is_nan, Float}
-use Rattle.std.specs.Float.{binary32}
+use Rattle.std.specs.Float.{binary32, float_is_finite}
 use Rattle.std.specs.Float.Ieee.{lt, le}
 use Rattle.numbers.specs.Arithmetic.{root, zero, one}
 use Rattle.arcs.specs.declared.arc_to.ArcSize.{ArcSize}
@@ -17,6 +17,12 @@ use Rattle.arcs.specs.Centres.{size_of, half_chord, radii_of, scaled_radii, divi
 use Rattle.arcs.specs.Sweeps.{angle_between, turn_of}
 use Rattle.arcs.specs.Curves.{no_chord, turned_of, centred_of, AsNeeded}
 use Rattle.arcs.specs.Ends.{point_finite, all_finite, end_of, nearness, lands_by_centre}
+
+-- ---- ends that are one point
+
+-- F.6.2: nothing is drawn; so the test of half the chord has it wherever the host's sine and cosine are finite
+abbrev pub NothingAtAPoint : Functions → ArcTo → List Command → Type 0
+NothingAtAPoint F a row = a.from ≡ a.to → T (point_finite a.from && (float_is_finite (F.sine a.angle) && float_is_finite (F.cosine a.angle))) → row ≡ []
 
 -- ---- the end
 
@@ -62,7 +68,7 @@ is_of Small t = le (size_of t) half_turn
 is_of Large t = le half_turn (size_of t)
 
 -- Of small arcs with growing angles, as strokes have them, the sign of the angle is asked too, as in the notes. It is below 0 only by
--- rounding, or by an answer of the host; then it is a whole turn less than the arc's.
+-- rounding, or by an answer of the host; a whole turn is added then.
 abbrev pub wraps : ArcSize → ArcSweep → Float → Bool
 wraps Small Positive x = lt x zero
 wraps Small Negative x = false

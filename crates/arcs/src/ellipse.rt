@@ -2,7 +2,7 @@ ghost use Rattle.std.specs.Prelude.{◌≡◌, ◌≤◌, T};
 ghost use Rattle.maths.specs.Questions.{all_asked};
 ghost use Rattle.arcs.specs.Curves.{placed, curve_between, round_at, round_questions, turned_of, curve_questions, curve_at, no_chord, all_curves, all_questions, ellipse, centred_of, round_curves, round_all_questions, arc_questions, OneToFour};
 ghost use Rattle.arcs.specs.Ends.{start_round, curves_of};
-ghost use Rattle.arcs.specs.Laws.{CountedAs, TurnsByFlags, RadiiFit, unsigned, ReachesEnd, FiniteIfEnds};
+ghost use Rattle.arcs.specs.Laws.{CountedAs, NothingAtAPoint, TurnsByFlags, RadiiFit, unsigned, ReachesEnd, FiniteIfEnds};
 ghost use Rattle.arcs.specs.Centres.{half_chord};
 
 use crate::arc_to::ArcTo;
@@ -181,6 +181,7 @@ pub fn arc_curves<K: MathsHost>(arc: ArcTo, alone: bool, host: &mut K) -> Few
     ensures host { host.new ≡ all_asked K.acts.asked host.old (arc_questions (K.acts.functions host.old) alone arc) }
     ensures few { OneToFour (no_chord (half_chord arc (turned_of (K.acts.functions host.old) arc.angle))) result.items }
     ensures needed { CountedAs (K.acts.functions host.old) alone arc result.items }
+    ensures point { NothingAtAPoint (K.acts.functions host.old) arc result.items }
     ensures turns { TurnsByFlags (K.acts.functions host.old) alone arc }
     ensures grow { RadiiFit (K.acts.functions host.old) alone arc }
     ensures unsigned { result.items ≡ curves_of (K.acts.functions host.old) alone (unsigned arc) }

@@ -1,5 +1,5 @@
 -- How the first item of a row of bytes is read: its letter tells what follows.
-use Rattle.std.specs.Prelude.{ℕ, ◌+◌, ◌*◌, ◌≤◌, cond, List, [], ◌∷◌, map, length, Some, None, Ok, Err, Option, Result, ◌==◌, from_bits, nat_le, slice_index, Float}
+use Rattle.std.specs.Prelude.{ℕ, ◌+◌, ◌*◌, ◌≤◌, if◌then◌else◌, List, [], ◌∷◌, map, length, Some, None, Ok, Err, Option, Result, ◌==◌, from_bits, nat_le, slice_index, Float}
 use Rattle.std.specs.Float.{binary32}
 use Rattle.std.specs.Option.{option_map}
 use Rattle.std.specs.List.{slice_get}
@@ -48,7 +48,7 @@ table =
 
 abbrev pub entry : List (ℕ × Shape) → ℕ → Option Shape
 entry [] c = None
-entry (row ∷ rows) c = cond (c == row.0) (Some row.1) (entry rows c)
+entry (row ∷ rows) c = if c == row.0 then Some row.1 else entry rows c
 
 abbrev pub shape : ℕ → Option Shape
 shape = entry table
@@ -88,7 +88,7 @@ taken (Some i) n = Ok (i, n)
 -- asked in this order: whether the letter is known, its operands are all there, and their byte picks an item
 abbrev pub asked : Option ℕ → List ℕ → Option Item → Result (Item × ℕ) Reason
 asked None bytes i = Err UnknownLetter
-asked (Some n) bytes i = cond (nat_le n (length bytes)) (taken i (1 + n)) (Err MissingOperands)
+asked (Some n) bytes i = if nat_le n (length bytes) then taken i (1 + n) else Err MissingOperands
 
 abbrev pub read : ℕ → List ℕ → Result (Item × ℕ) Reason
 read c bytes = asked (width_of c) bytes (item_of c bytes)

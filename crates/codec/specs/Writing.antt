@@ -1,5 +1,5 @@
 -- Bytes written over others.
-use Rattle.std.specs.Prelude.{ℕ, ◌+◌, ◌-◌, Bool, cond, List, ◌++◌, length, take, drop, Some, None, Option, nat_le}
+use Rattle.std.specs.Prelude.{ℕ, ◌+◌, ◌-◌, Bool, if◌then◌else◌, List, ◌++◌, length, take, drop, Some, None, Option, nat_le}
 use Rattle.path.specs.declared.command.Command.{Command}
 use Rattle.codec.specs.declared.item.Item.TheVariants.{Path}
 use Rattle.codec.specs.Spelling.{spelled}
@@ -18,7 +18,7 @@ fits bytes place c = nat_le (length (record_of c)) (length bytes - place)
 
 -- it is written where it fits, and nothing is altered where it does not
 abbrev pub size_written : List ℕ → ℕ → Command → Option ℕ
-size_written bytes place c = cond (fits bytes place c) (Some (length (record_of c))) None
+size_written bytes place c = if fits bytes place c then Some (length (record_of c)) else None
 
 abbrev pub with_record : List ℕ → ℕ → Command → List ℕ
-with_record bytes place c = cond (fits bytes place c) (written bytes place (record_of c)) bytes
+with_record bytes place c = if fits bytes place c then written bytes place (record_of c) else bytes

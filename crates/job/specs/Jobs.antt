@@ -1,5 +1,5 @@
 -- What a job holds, and what an item adds to it.
-use Rattle.std.specs.Prelude.{ℕ, Bool, true, cond, ◌&&◌, List, [], ◌∷◌, length, Ok, Err, Result, nat_lt, Float}
+use Rattle.std.specs.Prelude.{ℕ, Bool, true, if◌then◌else◌, ◌&&◌, List, [], ◌∷◌, length, Ok, Err, Result, nat_lt, Float}
 use denote.Ref.{MutBor}
 use Rattle.lent.specs.declared.Lent.{Lent}
 use Rattle.lent.specs.Lists.{items, empty, room, pushed}
@@ -72,10 +72,10 @@ with_item j i = record { style = styled j.style i; commands = pushed_all j.comma
 
 -- an item is refused where its list takes no more, and nothing is altered then
 abbrev pub list_answer : Bool → Result (Unit {0}) Reason
-list_answer taken = cond taken (Ok tt) (Err ListFull)
+list_answer taken = if taken then Ok tt else Err ListFull
 
 abbrev pub stored_answer : Job → Item → Result (Unit {0}) Reason
 stored_answer j i = list_answer (takes_item j i)
 
 abbrev pub stored_job : Job → Item → Job
-stored_job j i = cond (takes_item j i) (with_item j i) j
+stored_job j i = if takes_item j i then with_item j i else j

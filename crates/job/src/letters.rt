@@ -17,7 +17,8 @@ struct Operands<'a> {
 
 impl Operands<'_> {
     fn byte(&mut self) -> Result<u8, Reason>
-        ensures { Front 1 (slice_index self.old.bytes.now 0) self.old.bytes.now self.new.bytes.now result }
+        ensures { Front 1 (slice_index self.old.bytes.now 0)
+            self.old.bytes.now self.new.bytes.now result }
     {
         let (first, rest) = self.bytes.split_first().ok_or(Reason::MissingOperands)?;
         self.bytes = rest;
@@ -26,7 +27,8 @@ impl Operands<'_> {
 
     // A number has its high byte first.
     fn number(&mut self) -> Result<f32, Reason>
-        ensures { Front 4 (float_at self.old.bytes.now 0) self.old.bytes.now self.new.bytes.now result }
+        ensures { Front 4 (float_at self.old.bytes.now 0)
+            self.old.bytes.now self.new.bytes.now result }
     {
         let (word, rest) = self
             .bytes
@@ -37,7 +39,8 @@ impl Operands<'_> {
     }
 
     fn point(&mut self) -> Result<Point, Reason>
-        ensures { Front 8 (point_at self.old.bytes.now 0) self.old.bytes.now self.new.bytes.now result }
+        ensures { Front 8 (point_at self.old.bytes.now 0)
+            self.old.bytes.now self.new.bytes.now result }
     {
         let x = self.number()?;
         let y = self.number()?;
@@ -46,7 +49,10 @@ impl Operands<'_> {
 
     // The item that a letter says with its operands.
     fn item(&mut self, letter: u8) -> Result<Item, Reason>
-        ensures { MatchResult result (λ i. read letter self.old.bytes.now ≡ Ok (i, 1 + length self.old.bytes.now - length self.new.bytes.now)) (λ e. read letter self.old.bytes.now ≡ Err e) }
+        ensures { MatchResult result
+            (λ i. read letter self.old.bytes.now
+            ≡ Ok (i, 1 + length self.old.bytes.now - length self.new.bytes.now))
+            (λ e. read letter self.old.bytes.now ≡ Err e) }
     {
         match letter as char {
             'W' => Ok(Item::Width(self.number()?)),

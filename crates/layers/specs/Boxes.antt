@@ -1,5 +1,5 @@
 -- The box around the points of commands, as far as they are numbers.
-use Rattle.std.specs.Prelude.{Bool, cond, not, ◌&&◌, List, [], ◌∷◌, Some, None, Option, is_nan, Float}
+use Rattle.std.specs.Prelude.{Bool, if◌then◌else◌, not, ◌&&◌, List, [], ◌∷◌, Some, None, Option, is_nan, Float}
 use Rattle.std.specs.Float.Ieee.{lt}
 use Rattle.path.specs.declared.geometry.Vector.{Vector}
 use Rattle.path.specs.declared.command.Command.{Command}
@@ -8,10 +8,10 @@ use Rattle.layers.specs.Corners.{Corners}
 
 -- the less of two numbers, and the greater; the first where neither is, so the first of two zeros stays
 abbrev pub lower : Float → Float → Float
-lower x y = cond (lt y x) y x
+lower x y = if lt y x then y else x
 
 abbrev pub upper : Float → Float → Float
-upper x y = cond (lt x y) y x
+upper x y = if lt x y then y else x
 
 abbrev pub low_corner : Vector → Vector → Vector
 low_corner a p = record { x = lower a.x p.x; y = lower a.y p.y }
@@ -36,7 +36,7 @@ number p = not (is_nan p.x) && not (is_nan p.y)
 
 -- a point with a NaN is passed over
 abbrev pub spread : Option Corners → Vector → Option Corners
-spread o p = cond (number p) (Some (first_or_around o p)) o
+spread o p = if number p then Some (first_or_around o p) else o
 
 abbrev pub spreads : Option Corners → List Vector → Option Corners
 spreads o [] = o

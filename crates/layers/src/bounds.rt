@@ -29,7 +29,8 @@ impl<S: Sink> Bounds<S> {
     /// The box, none where no point was taken that is a number.
     pub fn bounds(&self) -> Option<BoundingBox>
         ensures value { result ≡ self.now.bounds }
-        ensures seen { (ps : List Vector) → self.now.bounds ≡ spreads None ps → result ≡ spreads None ps }
+        ensures seen { (ps : List Vector)
+            → self.now.bounds ≡ spreads None ps → result ≡ spreads None ps }
         ensures ordered { IfSome result InOrder }
     {
         let bounds = self.bounds;

@@ -1,11 +1,8 @@
 -- A front of some places, with what was read after it.
-use Rattle.std.proofs.Common.{◌≡◌, ℕ, ◌+◌, ◌-◌, ◌<◌, ◌≤◌, List, [], ◌++◌, length, take, drop, Some, None, Option, IfSome, sym, ap, ◌∙◌, subst, arith, le_refl, drop_at, append-nil, length-take-le, inl, inr}
-use Rattle.std.proofs.lemmas.Bool.{cases_lt}
+use Rattle.std.proofs.Common.{◌≡◌, ℕ, ◌+◌, ◌-◌, ◌≤◌, List, ◌++◌, length, take, drop, sym, ap, ◌∙◌, le_refl, drop_at, length-take-le}
 use Rattle.std.proofs.lemmas.Slice.{take-put_mid_below}
 use borrow.Rule.Slice.PartMut.{put_mid, post_of}
-use lib.Seq.{take-add, take-append-le, take-append_seam}
-use Rattle.std.specs.Io.KnownBytes.{Consumes, IsAtEnd}
-use Rattle.lines.specs.Streams.{Begins}
+use lib.Seq.{take-add, take-append-le}
 
 -- the first n of what was read into the places from i on come after the first i
 pub read_after : (i n : ℕ) (places more : List ℕ) → i ≤ length places → n ≤ length more

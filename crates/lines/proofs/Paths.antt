@@ -1,9 +1,9 @@
 -- The lines of a list, up to one of them and after it.
-use Rattle.std.proofs.Common.{◌≡◌, ℕ, zero, suc, ◌<◌, List, [], ◌∷◌, ◌++◌, length, map, take, drop, get_or, Option, Result, Ok, Err, refl, sym, ap, ◌∙◌, subst, append_assoc, arith}
+use Rattle.std.proofs.Common.{◌≡◌, ℕ, zero, suc, ◌<◌, List, [], ◌∷◌, ◌++◌, length, map, take, drop, get_or, Option, refl, sym, ap, ◌∙◌, subst, append_assoc, arith}
 use Rattle.std.specs.Io.KnownBytes.{Appends}
 use Rattle.lines.specs.declared.line.Line.{Line}
 use Rattle.lines.specs.Printing.{printed, text_of}
-use Rattle.lines.specs.Streams.{GrowsByFront, Writes}
+use Rattle.lines.specs.Streams.{GrowsByFront}
 use Rattle.lines.proofs.Growing.{front_after, front_of_first, text_both}
 
 split_at : {X : Type 0} (f : X → Line) (xs : List X) (i : ℕ) (d : X) → i < length xs

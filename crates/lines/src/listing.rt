@@ -15,8 +15,11 @@ use std::io::{Read, Write};
 /// Prints what a job holds: the style, the dashes, the path, and how many of them. A job that is refused
 /// is printed as its refusal alone.
 pub fn listing<R: Read, W: Write>(reader: &mut R, writer: &mut W) -> io::Result<()>
-    ensures text { IfSome (R.remaining reader.old) (λ bytes. Writes (W.contents writer.old) (W.contents writer.new) result (listing_of bytes)) }
-    ensures left { OnOk result (IfSome (R.remaining reader.old) (λ bytes. R.remaining reader.new ≡ Some (drop 8192 bytes))) }
+    ensures text { IfSome (R.remaining reader.old) (λ bytes.
+        Writes (W.contents writer.old) (W.contents writer.new) result
+        (listing_of bytes)) }
+    ensures left { OnOk result (IfSome (R.remaining reader.old) (λ bytes.
+        R.remaining reader.new ≡ Some (drop 8192 bytes))) }
 {
     run(reader, writer, Held)
 }
@@ -33,7 +36,8 @@ impl Program for Held {
 }
 
 fn print_job<W: Write>(writer: &mut W, job: &Job) -> io::Result<()>
-    ensures { Writes (W.contents writer.old) (W.contents writer.new) result (text_of (job_lines (accepted job.now))) }
+    ensures { Writes (W.contents writer.old) (W.contents writer.new) result
+        (text_of (job_lines (accepted job.now))) }
 {
     print_all(writer, &style_lines(job.style))?;
     print_all(writer, job.dashes.as_slice())?;

@@ -8,10 +8,9 @@ use crate::writing::write_text;
 use arrayvec::ArrayString;
 use codec::item::Item;
 use path::command::Command;
-use std::fmt;
 use std::fmt::{Display, Write as _};
-use std::io;
 use std::io::Write;
+use std::{fmt, io};
 
 /// What has a line of its own.
 pub trait AsLine: Copy {
@@ -51,7 +50,9 @@ impl AsLine for f32 {
 /// Prints a value and a line break. Where it fails a front of them was written; so it does where they
 /// are longer than 64 bytes.
 pub fn println<W: Write, D: Display + Drop>(writer: &mut W, value: D) -> io::Result<()>
-    ensures { IfSome (D.output value) (λ text. Writes (W.contents writer.old) (W.contents writer.new) result (text ++ (10 ∷ []))) }
+    ensures { IfSome (D.output value) (λ text.
+        Writes (W.contents writer.old) (W.contents writer.new) result
+        (text ++ (10 ∷ []))) }
 {
     let Ok(text) = shown(value) else {
         return Err(io::Error::from(fmt::Error));
@@ -70,7 +71,8 @@ pub fn print<W: Write>(writer: &mut W, line: Line) -> io::Result<()>
 /// Prints the lines of a row, one after the other. Where it fails a front of them was written.
 #[tactic(auto, unfolding(crate::specs::Printing::text_of))]
 pub fn print_all<W: Write, T: AsLine>(writer: &mut W, row: &[T]) -> io::Result<()>
-    ensures { Writes (W.contents writer.old) (W.contents writer.new) result (text_of (map T.line_of row.now)) }
+    ensures { Writes (W.contents writer.old) (W.contents writer.new) result
+        (text_of (map T.line_of row.now)) }
 {
     for x in row {
         print(writer, x.line())?;
@@ -80,7 +82,8 @@ pub fn print_all<W: Write, T: AsLine>(writer: &mut W, row: &[T]) -> io::Result<(
 
 // The longest line has six numbers, and 56 bytes.
 fn shown<D: Display + Drop>(value: D) -> Result<ArrayString<64>, fmt::Error>
-    ensures { IfSome (D.output value) (λ shown. IfOk result (λ text. text.bytes ≡ shown ++ (10 ∷ []))) }
+    ensures { IfSome (D.output value) (λ shown.
+        IfOk result (λ text. text.bytes ≡ shown ++ (10 ∷ []))) }
 {
     let mut text = ArrayString::new();
     writeln!(text, "{value}")?;

@@ -28,7 +28,8 @@ pub trait Program: Copy {
     ghost lines: { Self → Said → List Line };
 
     fn report<W: Write>(self, writer: &mut W, job: &Job) -> io::Result<()>
-        ensures { Writes (W.contents writer.old) (W.contents writer.new) result (text_of (lines self (accepted job.now))) };
+        ensures { Writes (W.contents writer.old) (W.contents writer.new) result
+            (text_of (lines self (accepted job.now))) };
 }
 
 /// Reads a job, of at most 8,192 bytes, into 512 places for commands and 32 for dashes, and prints what
@@ -39,8 +40,11 @@ pub fn run<R: Read, W: Write, P: Program>(
     writer: &mut W,
     program: P,
 ) -> io::Result<()>
-    ensures text { IfSome (R.remaining reader.old) (λ bytes. Writes (W.contents writer.old) (W.contents writer.new) result (text_of (reported (P.lines program) (said_by 512 32 (take 8192 bytes))))) }
-    ensures left { OnOk result (IfSome (R.remaining reader.old) (λ bytes. R.remaining reader.new ≡ Some (drop 8192 bytes))) }
+    ensures text { IfSome (R.remaining reader.old) (λ bytes.
+        Writes (W.contents writer.old) (W.contents writer.new) result
+        (text_of (reported (P.lines program) (said_by 512 32 (take 8192 bytes))))) }
+    ensures left { OnOk result (IfSome (R.remaining reader.old) (λ bytes.
+        R.remaining reader.new ≡ Some (drop 8192 bytes))) }
 {
     let mut places = [0; MOST_BYTES];
     let count = read_front(reader, &mut places)?;
@@ -48,7 +52,8 @@ pub fn run<R: Read, W: Write, P: Program>(
 }
 
 fn report<W: Write, P: Program>(writer: &mut W, program: P, bytes: &[u8]) -> io::Result<()>
-    ensures { Writes (W.contents writer.old) (W.contents writer.new) result (text_of (reported (P.lines program) (said_by 512 32 bytes.now))) }
+    ensures { Writes (W.contents writer.old) (W.contents writer.new) result
+        (text_of (reported (P.lines program) (said_by 512 32 bytes.now))) }
 {
     let mut commands = [Command::Close; MOST_COMMANDS];
     let mut dashes = [0.0; MOST_DASHES];

@@ -11,16 +11,20 @@ use std::io::{ErrorKind, Read};
 /// there are. What the reader has after them it keeps.
 pub fn read_front<R: Read>(reader: &mut R, places: &mut [u8]) -> io::Result<usize>
     ensures fits { ReadsAtMost result places.new }
-    ensures bytes { IfOk result (λ n. IfSome (R.remaining reader.old) (λ xs. take n places.new ≡ take (length places.old) xs)) }
-    ensures left { OnOk result (IfSome (R.remaining reader.old) (λ xs. R.remaining reader.new ≡ Some (drop (length places.old) xs))) }
+    ensures bytes { IfOk result (λ n. IfSome (R.remaining reader.old) (λ xs.
+        take n places.new ≡ take (length places.old) xs)) }
+    ensures left { OnOk result (IfSome (R.remaining reader.old) (λ xs.
+        R.remaining reader.new ≡ Some (drop (length places.old) xs))) }
 {
     filled(reader, places)
 }
 
 /// Reads likewise into new memory, so many bytes at most.
 pub fn read_up_to<R: Read>(heap: Global, reader: &mut R, most: usize) -> io::Result<Vec<u8>>
-    ensures bytes { IfOk result (λ v. IfSome (R.remaining reader.old) (λ xs. v.items ≡ take most xs)) }
-    ensures left { OnOk result (IfSome (R.remaining reader.old) (λ xs. R.remaining reader.new ≡ Some (drop most xs))) }
+    ensures bytes { IfOk result (λ v. IfSome (R.remaining reader.old) (λ xs.
+        v.items ≡ take most xs)) }
+    ensures left { OnOk result (IfSome (R.remaining reader.old) (λ xs.
+        R.remaining reader.new ≡ Some (drop most xs))) }
 {
     let mut bytes = vec![in heap; 0; most]?;
     let count = read_front(reader, &mut bytes)?;
@@ -30,7 +34,9 @@ pub fn read_up_to<R: Read>(heap: Global, reader: &mut R, most: usize) -> io::Res
 
 fn filled<R: Read>(reader: &mut R, places: &mut [u8]) -> io::Result<usize>
     ensures fits { ReadsAtMost result places.new }
-    ensures bytes { IfOk result (λ n. Begins (R.remaining reader.old) (R.remaining reader.new) (length places.old) (take n places.new)) }
+    ensures bytes { IfOk result (λ n.
+        Begins (R.remaining reader.old) (R.remaining reader.new) (length places.old)
+        (take n places.new)) }
 {
     let mut count = 0;
     for _ in 0..places.len() {
@@ -46,8 +52,10 @@ fn filled<R: Read>(reader: &mut R, places: &mut [u8]) -> io::Result<usize>
 // One read, again where a signal broke it off. The tries are counted, so that they end.
 fn read_some<R: Read>(reader: &mut R, places: &mut [u8]) -> io::Result<usize>
     ensures fits { ReadsAtMost result places.new }
-    ensures bytes { IfOk result (λ n. Consumes (R.remaining reader.old) (R.remaining reader.new) (take n places.new)) }
-    ensures end { IfOk result (λ n. n ≡ 0 → 0 < length places.old → IsAtEnd (R.remaining reader.new)) }
+    ensures bytes { IfOk result (λ n.
+        Consumes (R.remaining reader.old) (R.remaining reader.new) (take n places.new)) }
+    ensures end { IfOk result (λ n. n ≡ 0 → 0 < length places.old →
+        IsAtEnd (R.remaining reader.new)) }
 {
     for _ in 0..u64::MAX {
         match reader.read(places) {

@@ -1,5 +1,5 @@
 -- What is printed of a stroke into an empty list.
-use Rattle.std.proofs.Common.{◌≡◌, ℕ, ap, ap₂, ◌∙◌}
+use Rattle.std.proofs.Common.{◌≡◌, ℕ, ap₂, ◌∙◌}
 use Rattle.maths.specs.Functions.{Functions}
 use Rattle.sinks.specs.Meaning.{Meaning}
 use Rattle.job.specs.Sayings.{Said}

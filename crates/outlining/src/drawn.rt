@@ -18,7 +18,8 @@ pub fn print_drawn<W: Write>(
     commands: &[Command],
     answer: Result<Tally, Refusal>,
 ) -> io::Result<()>
-    ensures { Writes (W.contents writer.old) (W.contents writer.new) result (text_of (drawn_lines commands.now answer)) }
+    ensures { Writes (W.contents writer.old) (W.contents writer.new) result
+        (text_of (drawn_lines commands.now answer)) }
 {
     print_all(writer, commands)?;
     print(writer, answer_line(answer))

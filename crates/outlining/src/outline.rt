@@ -25,8 +25,11 @@ const PLACES: usize = 1024;
 /// the text was written.
 #[tactic(auto, unfolding(crate::specs::Outlined::outline_of))]
 pub fn outline<R: Read, W: Write>(reader: &mut R, writer: &mut W) -> io::Result<()>
-    ensures text { IfSome (R.remaining reader.old) (λ bytes. Writes (W.contents writer.old) (W.contents writer.new) result (outline_of bytes)) }
-    ensures left { OnOk result (IfSome (R.remaining reader.old) (λ bytes. R.remaining reader.new ≡ Some (drop 8192 bytes))) }
+    ensures text { IfSome (R.remaining reader.old) (λ bytes.
+        Writes (W.contents writer.old) (W.contents writer.new) result
+        (outline_of bytes)) }
+    ensures left { OnOk result (IfSome (R.remaining reader.old) (λ bytes.
+        R.remaining reader.new ≡ Some (drop 8192 bytes))) }
 {
     run(reader, writer, Stroked)
 }
@@ -43,7 +46,8 @@ impl Program for Stroked {
 }
 
 fn stroke_job<W: Write>(writer: &mut W, job: &Job) -> io::Result<()>
-    ensures { Writes (W.contents writer.old) (W.contents writer.new) result (text_of (stroked_lines (accepted job.now))) }
+    ensures { Writes (W.contents writer.old) (W.contents writer.new) result
+        (text_of (stroked_lines (accepted job.now))) }
 {
     let mut places = [Command::Close; PLACES];
     let mut list = RecordList::new(&mut places);

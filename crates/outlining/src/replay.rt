@@ -33,8 +33,11 @@ const MOST_DASHES: usize = 32;
 /// Reads a setting and replays it. Of the bytes the first 720,913 are read, and those after them stay
 /// unread. Where it fails, also for want of memory, a front of the text was written.
 pub fn replay<R: Read, W: Write>(heap: Global, reader: &mut R, writer: &mut W) -> io::Result<()>
-    ensures text { IfSome (R.remaining reader.old) (λ bytes. Writes (W.contents writer.old) (W.contents writer.new) result (replay_of (take 720913 bytes))) }
-    ensures left { OnOk result (IfSome (R.remaining reader.old) (λ bytes. R.remaining reader.new ≡ Some (drop 720913 bytes))) }
+    ensures text { IfSome (R.remaining reader.old) (λ bytes.
+        Writes (W.contents writer.old) (W.contents writer.new) result
+        (replay_of (take 720913 bytes))) }
+    ensures left { OnOk result (IfSome (R.remaining reader.old) (λ bytes.
+        R.remaining reader.new ≡ Some (drop 720913 bytes))) }
 {
     let bytes = read_up_to(heap, reader, MOST_BYTES)?;
     replay_bytes(heap, writer, &bytes)
@@ -56,7 +59,9 @@ pub fn replay_bytes<W: Write>(heap: Global, writer: &mut W, bytes: &[u8]) -> io:
 /// commands that were sent and of the answer. A job that is refused is not stroked, and its refusal is
 /// printed alone. Where it fails, also for want of memory, a front of the text was written.
 pub fn replay_setting<W: Write>(heap: Global, writer: &mut W, setting: Setting) -> io::Result<()>
-    ensures { Writes (W.contents writer.old) (W.contents writer.new) result (text_of (reported (replayed_lines (values setting.entry)) (said_by 4096 32 setting.entry.job.now))) }
+    ensures { Writes (W.contents writer.old) (W.contents writer.new) result
+        (text_of (reported (replayed_lines (values setting.entry))
+        (said_by 4096 32 setting.entry.job.now))) }
 {
     let mut commands = vec![in heap; Command::Close; MOST_COMMANDS]?;
     let mut dashes = [0.0; MOST_DASHES];
@@ -67,13 +72,9 @@ pub fn replay_setting<W: Write>(heap: Global, writer: &mut W, setting: Setting) 
     }
 }
 
-fn replay_job<W: Write>(
-    heap: Global,
-    writer: &mut W,
-    setting: Setting,
-    job: &Job,
-) -> io::Result<()>
-    ensures { Writes (W.contents writer.old) (W.contents writer.new) result (text_of (replayed_lines (values setting.entry) (accepted job.now))) }
+fn replay_job<W: Write>(heap: Global, writer: &mut W, setting: Setting, job: &Job) -> io::Result<()>
+    ensures { Writes (W.contents writer.old) (W.contents writer.new) result
+        (text_of (replayed_lines (values setting.entry) (accepted job.now))) }
 {
     let mut places = vec![in heap; Command::Close; setting.places]?;
     let mut segments = vec![in heap; Segment::End(false); setting.segments]?;
@@ -90,7 +91,8 @@ fn replay_in<W: Write>(
 ) -> io::Result<()>
     requires places { length places.old ≡ setting.places }
     requires segments { length segments.old ≡ setting.segments }
-    ensures { Writes (W.contents writer.old) (W.contents writer.new) result (text_of (replayed_lines (values setting.entry) (accepted job.now))) }
+    ensures { Writes (W.contents writer.old) (W.contents writer.new) result
+        (text_of (replayed_lines (values setting.entry) (accepted job.now))) }
 {
     let mut list = RecordList::new(places);
     let mut storage = LentStorage::new(segments);

@@ -1,5 +1,5 @@
 -- What shapes a corner: the first of these that holds.
-use Rattle.std.specs.Prelude.{◌≡◌, Bool, true, false, cond, not, List, [], ◌∷◌, find, Some, Float}
+use Rattle.std.specs.Prelude.{◌≡◌, Bool, true, false, if◌then◌else◌, not, List, [], ◌∷◌, find, Some, Float}
 use Rattle.std.specs.Float.{◌<ᶠ◌, ◌≤ᶠ◌, NotNan}
 use Rattle.std.specs.Float.Ieee.{lt}
 use Rattle.numbers.specs.Arithmetic.{◌⊕◌, ◌⊗◌, ◌⊘◌, root, zero, one}
@@ -25,7 +25,10 @@ abbrev pub half_turn_sine : Turn → Float
 half_turn_sine t = root ((one ⊕ turn_dot t) ⊗ half)
 
 abbrev pub miter_corner : Nib → Turn → Corner
-miter_corner nib t = cond (lt (turn_dot t) zero) NegativeDot (cond (lt (half_turn_sine t) nib.inv_miter_limit) PastLimit Miter)
+miter_corner nib t =
+    if lt (turn_dot t) zero then NegativeDot
+    else if lt (half_turn_sine t) nib.inv_miter_limit then PastLimit
+    else Miter
 
 abbrev pub by_join : Join → Corner → Corner
 by_join BevelJoin _ = Bevel
@@ -33,7 +36,10 @@ by_join RoundJoin _ = Round
 by_join MiterJoin mitered = mitered
 
 abbrev pub corner_of : Nib → Turn → Corner
-corner_of nib t = cond (near t.from t.to) Meet (cond (clockwise t.from_normal t.to_normal) (by_join nib.join (miter_corner nib t)) Inner)
+corner_of nib t =
+    if near t.from t.to then Meet
+    else if clockwise t.from_normal t.to_normal then by_join nib.join (miter_corner nib t)
+    else Inner
 
 -- how far a miter's point is from the pivot
 abbrev pub miter_length : Nib → Turn → Float

@@ -1,5 +1,5 @@
 -- The nib that a style has.
-use Rattle.std.specs.Prelude.{cond, from_bits, Float}
+use Rattle.std.specs.Prelude.{if◌then◌else◌, from_bits, Float}
 use Rattle.std.specs.Float.Ieee.{le}
 use Rattle.std.specs.Float.{float_max, binary32}
 use Rattle.numbers.specs.Arithmetic.{◌⊗◌, ◌⊘◌, one}
@@ -23,7 +23,7 @@ radius_of w = width_drawn w ⊗ half
 
 -- 1 over a limit of at least 1, else 1
 abbrev pub inverse_limit : Float → Float
-inverse_limit l = cond (le one l) (one ⊘ l) one
+inverse_limit l = if le one l then one ⊘ l else one
 
 abbrev pub nib_of : Stroke → Nib
 nib_of s = record {

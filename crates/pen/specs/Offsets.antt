@@ -1,5 +1,5 @@
 -- A segment moved sideways by the radius.
-use Rattle.std.specs.Prelude.{◌≡◌, Bool, cond, from_bits, Float}
+use Rattle.std.specs.Prelude.{◌≡◌, Bool, if◌then◌else◌, from_bits, Float}
 use Rattle.std.specs.Float.{binary32}
 use Rattle.numbers.specs.Arithmetic.{◌⊕◌, ◌⊗◌, ◌⊘◌, root, zero, one}
 use Rattle.path.specs.declared.geometry.Vector.{Vector}
@@ -30,7 +30,9 @@ offset_line i l r =
 
 -- of the first of two legs that is not short, else of the whole chord
 abbrev pub leg_normal : StraightLine → StraightLine → StraightLine → Vector
-leg_normal leg next whole = cond (short leg.a leg.b) (cond (short next.a next.b) (normal_of whole.a whole.b) (normal_of next.a next.b)) (normal_of leg.a leg.b)
+leg_normal leg next whole =
+    if short leg.a leg.b then (if short next.a next.b then normal_of whole.a whole.b else normal_of next.a next.b)
+    else normal_of leg.a leg.b
 
 -- of the first leg, else of a to c, else of a to d
 abbrev pub first_normal : CubicCurve → Vector

@@ -104,11 +104,7 @@ fn bevelled(width: f32, shape: Cap) -> Stroke {
 }
 
 // What is printed of a stroke that left these commands.
-fn left(
-    heap: Global,
-    commands: &[Command],
-    answer: Result<Tally, Refusal>,
-) -> io::Result<String> {
+fn left(heap: Global, commands: &[Command], answer: Result<Tally, Refusal>) -> io::Result<String> {
     let mut printed = Vec::new(heap);
     print_drawn(&mut printed, commands, answer)?;
     Ok(slashed(heap, &printed)?)

@@ -24,7 +24,8 @@ impl JobReader<'_> {
 
     // The item at the place and the number of its bytes, none at the end. The reader stays.
     pub(super) fn item(&self) -> Result<Option<(Item, usize)>, Refusal>
-        ensures value { MatchResult result (λ found. first (left self.now) ≡ Ok found) (λ r. (first (left self.now) ≡ Err r.reason) × (r ≡ refusal self.now r.reason)) }
+        ensures value { MatchResult result (λ found. first (left self.now) ≡ Ok found)
+            (λ r. (first (left self.now) ≡ Err r.reason) × (r ≡ refusal self.now r.reason)) }
         ensures spelled { FindsSpelled self.now (first (left self.now)) }
         ensures within { Within self.now.place (length self.now.bytes.now) (first (left self.now)) }
     {
@@ -36,7 +37,8 @@ impl JobReader<'_> {
 
     // An answer whose reason becomes the refusal of the letter at the place.
     pub(super) fn placed<T>(&self, answer: Result<T, Reason>) -> Result<T, Refusal>
-        ensures { MatchResult result (λ x. answer ≡ Ok x) (λ r. (answer ≡ Err r.reason) × (r ≡ refusal self.now r.reason)) }
+        ensures { MatchResult result (λ x. answer ≡ Ok x)
+            (λ r. (answer ≡ Err r.reason) × (r ≡ refusal self.now r.reason)) }
     {
         // A `match`: a closure for `map_err` would need clauses of its own.
         match answer {

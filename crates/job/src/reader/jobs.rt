@@ -12,8 +12,10 @@ impl JobReader<'_> {
     /// stored before it.
     #[tactic(auto, using(crate::proofs::Turns::fewer))]
     pub fn read(&mut self, job: &mut Job) -> Result<(), Refusal>
-        ensures whole { record { answer = result; reader = self.new; job = job.new } ≡ whole self.old job.old }
-        ensures spelled { StoresSpelled self.old job.old (record { answer = result; reader = self.new; job = job.new }) }
+        ensures whole { record { answer = result; reader = self.new; job = job.new }
+            ≡ whole self.old job.old }
+        ensures spelled { StoresSpelled self.old job.old
+            (record { answer = result; reader = self.new; job = job.new }) }
     {
         while self.step(job)? {}
         Ok(())
@@ -22,7 +24,8 @@ impl JobReader<'_> {
     // Reads one item into the job, and answers whether there was one. A step apart, so that the loop is
     // the definition's.
     fn step(&mut self, job: &mut Job) -> Result<bool, Refusal>
-        ensures { record { answer = result; reader = self.new; job = job.new } ≡ step self.old job.old }
+        ensures { record { answer = result; reader = self.new; job = job.new }
+            ≡ step self.old job.old }
     {
         let Some((item, size)) = self.item()? else {
             return Ok(false);

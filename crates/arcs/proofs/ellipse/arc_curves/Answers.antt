@@ -2,8 +2,9 @@ use Rattle.std.proofs.Common.{◌∙◌, ◌≡◌, sym, subst}
 use Rattle.arcs.specs.Centres.{half_chord}
 use Rattle.arcs.specs.Curves.{no_chord, turned_of, OneToFour}
 use Rattle.arcs.specs.Ends.{curves_of}
-use Rattle.arcs.specs.Laws.{CountedAs, ReachesEnd, FiniteIfEnds}
+use Rattle.arcs.specs.Laws.{CountedAs, NothingAtAPoint, ReachesEnd, FiniteIfEnds}
 use Rattle.arcs.proofs.Reached.{few, counted, reaches, finite}
+use Rattle.arcs.proofs.Points.{nothing}
 use Rattle.arcs.proofs.Turns.{turns, radii_fit}
 use Rattle.arcs.proofs.Unsigned.{same_unsigned}
 use Rattle.arcs.proofs.ellipse.arc_curves.Goals as goal
@@ -19,6 +20,7 @@ returns g c =
       host = c.curves_of.ensures.host;
       few = subst (OneToFour (no_chord (half_chord arc (turned_of F arc.angle)))) (sym row) (few F alone arc);
       needed = subst (CountedAs F alone arc) (sym row) (counted F (g.met.K.MathsHost.ranged c.args.host.now) alone arc);
+      point = subst (NothingAtAPoint F arc) (sym row) (nothing F alone arc);
       turns = turns F (g.met.K.MathsHost.ranged c.args.host.now) alone arc;
       grow = radii_fit F alone arc;
       unsigned = row ∙ sym (same_unsigned F alone arc);

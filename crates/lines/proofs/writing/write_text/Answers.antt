@@ -1,7 +1,6 @@
-use Rattle.std.proofs.Common.{rules, ◌≡◌, List, [], ◌++◌, take, drop, sym, ap, ◌∙◌, subst, append-nil, drop_of_length-le}
-use Rattle.std.specs.Io.KnownBytes.{Appends}
+use Rattle.std.proofs.Common.{◌++◌, take}
 use Rattle.std.proofs.KnownBytes.{Appends-trans, Appends-kept}
-use Rattle.lines.proofs.Growing.{moves_front, none_yet}
+use Rattle.lines.proofs.Growing.{moves_front}
 use Rattle.lines.proofs.writing.write_text.Goals as goal
 use Rattle.lines.proofs.writing.write_text.Goals.{in-Ok, in-Err}
 
