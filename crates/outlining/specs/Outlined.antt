@@ -9,7 +9,7 @@ use Rattle.lines.specs.declared.line.Line.{Line}
 use Rattle.lines.specs.Listing.{reported}
 use Rattle.lines.specs.Printing.{text_of}
 use Rattle.dashes.specs.StepCounts.{most_steps}
-use Rattle.stroke.specs.Outcomes.{Outcome as Stroked, stroked}
+use Rattle.stroke.specs.Outcomes.{Outcome as Stroked, request, stroked}
 use Rattle.outlining.specs.Drawn.{drawn_lines}
 
 -- an empty list of so many places
@@ -19,7 +19,7 @@ empty_list places = record { list = []; units = places; price = λ k. 1; map = �
 -- a job stroked by five functions into so many places
 abbrev pub stroked_job : Functions → ℕ → ℕ → ℕ → Said → Stroked Meaning Held (Unit {0})
 stroked_job F segments places budget j =
-    stroked meaning_acts held_acts (no_host F) budget F j.commands j.style j.dashes (empty_list places) (empty_held segments) tt
+    stroked meaning_acts held_acts (no_host F) (request j.commands j.style j.dashes budget) (empty_list places) (empty_held segments) tt
 
 abbrev pub lines_of : Stroked Meaning Held (Unit {0}) → List Line
 lines_of x = drawn_lines x.sink.list x.answer

@@ -7,7 +7,7 @@ use Rattle.path.specs.declared.command.Command.{Command}
 use Rattle.path.specs.declared.refusal.Refusal.{Refusal}
 use Rattle.path.specs.declared.style.Stroke.{Stroke}
 use Rattle.stroke.specs.declared.tally.Tally.{Tally}
-use Rattle.stroke.specs.Outcomes.{Outcome, stroked}
+use Rattle.stroke.specs.Outcomes.{Outcome, Request, stroked}
 use Rattle.stroke.proofs.Seen.{seen_stroked}
 use Rattle.tape.specs.ByteSinks.{over, spelling, byte_acts}
 use Rattle.tape.specs.Tapes.{price}
@@ -28,15 +28,14 @@ use Rattle.sinks.specs.Meaning.{SinkActs}
 abbrev commands_over : MutBor (List ℕ) → SinkActs (List Command)
 commands_over bytes = record { meaning = λ ds. spelling (over bytes ds); took = λ ds d. ds ++ (d ∷ []) }
 
-pub stroke_writes : {B K : Type 0} (storages : StorageActs B) (hosts : HostActs K) (budget : ℕ)
-    (F : Functions) (cs : List Command) (style : Stroke) (dashes : List Float) (s : ByteSink) (b : B) (k : K) {r : Result Tally Refusal} {s' : ByteSink} {b' : B} {k' : K}
-    → ◌≡◌ {A = Outcome ByteSink B K} (record { answer = r; sink = s'; storage = b'; host = k' }) (stroked byte_acts storages hosts budget F cs style dashes s b k) → Writes s s'
-stroke_writes storages hosts budget F cs style dashes s b k e bytes is =
-    let plainly = stroked (commands_over bytes) storages hosts budget F cs style dashes [] b k in
+pub stroke_writes : {B K : Type 0} (storages : StorageActs B) (hosts : HostActs K) (q : Request) (s : ByteSink) (b : B) (k : K) {r : Result Tally Refusal} {s' : ByteSink} {b' : B} {k' : K}
+    → ◌≡◌ {A = Outcome ByteSink B K} (record { answer = r; sink = s'; storage = b'; host = k' }) (stroked byte_acts storages hosts q s b k) → Writes s s'
+stroke_writes storages hosts q s b k e bytes is =
+    let plainly = stroked (commands_over bytes) storages hosts q [] b k in
     let same = seen_stroked (commands_over bytes) storages hosts byte_acts storages hosts (over bytes) (λ c. c) (λ c. c)
-    (record { means = λ ds. refl; takes_alike = λ ds d fits. over_grows bytes ds d; holds = λ c. refl; capable = λ c. refl; clears_alike = λ c. refl; pushes_alike = λ c x fits. refl; asks_alike = λ c q x. refl })
-    budget F cs style dashes [] b k in
-    (plainly.sink, ap (λ (o : Outcome ByteSink _ _). o.sink) (e ∙ ap (λ t. stroked byte_acts storages hosts budget F cs style dashes t b k) is ∙ sym same))
+    (record { means = λ ds. refl; takes_alike = λ n ds d enough fits. (over_grows bytes ds d, tt); fewer = λ n ds enough. tt; holds = λ c. refl; capable = λ c. refl; clears_alike = λ c. refl; pushes_alike = λ c x fits. refl; asks_alike = λ c q x. refl })
+    q [] b k refl in
+    (plainly.sink, ap (λ (o : Outcome ByteSink _ _). o.sink) (e ∙ ap (λ t. stroked byte_acts storages hosts q t b k) is ∙ sym same))
 
 -- as records of the commands that it drew
 module _ (F : Functions) (segments : ℕ) (j : Said) (s s' : ByteSink) (fresh : s ≡ over s.bytes []) where

@@ -7,7 +7,7 @@ use Rattle.path.specs.declared.refusal.Refusal.{Refusal}
 use Rattle.sinks.specs.Meaning.{Meaning, meaning_acts}
 use Rattle.job.specs.Sayings.{Said, said_by}
 use Rattle.stroke.specs.declared.tally.Tally.{Tally}
-use Rattle.stroke.specs.Outcomes.{Outcome, stroked}
+use Rattle.stroke.specs.Outcomes.{Outcome, request, stroked}
 use Rattle.tape.specs.ByteSinks.{overwritten, over}
 use Rattle.tape.specs.Decoding.{records}
 use Rattle.tape.specs.Tapes.{price}
@@ -26,7 +26,7 @@ seen o = record { answer = o.answer; sink = o.sink }
 
 -- by five functions, with a storage of so many segments and the greatest budget
 abbrev pub stroke_drawn : Functions → ℕ → Said → Meaning → Drawn
-stroke_drawn F segments j m = seen (stroked meaning_acts held_acts (no_host F) 65536 F j.commands j.style j.dashes m (empty_held segments) tt)
+stroke_drawn F segments j m = seen (stroked meaning_acts held_acts (no_host F) (request j.commands j.style j.dashes 65536) m (empty_held segments) tt)
 
 abbrev pub drawn_by : Functions → ℕ → Result (Unit {0}) Refusal → Said → Meaning → Drawn
 drawn_by F segments (Ok x) j m = stroke_drawn F segments j m

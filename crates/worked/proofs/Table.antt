@@ -10,13 +10,13 @@ use Rattle.dashes.specs.Walks.{walking, seeking, passed, taken_ranges}
 use Rattle.stroke.specs.Calls.{run_by_run}
 use Rattle.stroke.specs.Contours.{row}
 use Rattle.stroke.specs.Outcomes.{perform, stroked}
-use Rattle.stroke.specs.Outlines.{forward, backward}
+use Rattle.stroke.specs.Outlines.{onward, one_onward}
 use Rattle.stroke.specs.Ranges.{sliced}
 use Rattle.worked.specs.Outcomes.{Comes, Takes}
 use Rattle.worked.specs.Table.{Table, ByRuns}
 
 pub table : Table
-unfolding is_nan add sub mul div rem neg eq lt le round sum size span climb units odd of_bits of_fields of_int round_to_format round_with float_is_finite float_with_sign sqrt count_trailing_zeros drawing pieces_given pieces_drawn joined_over further walking seeking run_by_run perform stroked forward backward sliced passed
+unfolding is_nan add sub mul div rem neg eq lt le round sum size span climb units odd of_bits of_fields of_int round_to_format round_with float_is_finite float_with_sign sqrt count_trailing_zeros drawing pieces_given pieces_drawn joined_over further walking seeking run_by_run perform stroked onward one_onward sliced passed
 table = record {
   line = record { answers = λ F. refl; leaves = λ F. refl };
   dashed_line = (record { answers = λ F. refl; leaves = λ F. refl }, record { answers = λ F. refl; leaves = λ F. refl });
@@ -32,7 +32,7 @@ table = record {
 
 -- and by its runs
 pub by_runs : ByRuns
-unfolding is_nan add sub mul div rem neg eq lt le round sum size span climb units odd of_bits of_fields of_int round_to_format round_with float_is_finite float_with_sign sqrt count_trailing_zeros drawing pieces_given pieces_drawn joined_over further walking seeking row forward backward sliced passed taken_ranges
+unfolding is_nan add sub mul div rem neg eq lt le round sum size span climb units odd of_bits of_fields of_int round_to_format round_with float_is_finite float_with_sign sqrt count_trailing_zeros drawing pieces_given pieces_drawn joined_over further walking seeking row onward one_onward sliced passed taken_ranges
 by_runs = record {
   line = record { row = λ F. refl; steps = λ F. refl; ranges = λ F. refl };
   dashed_line = record { row = λ F. refl; steps = λ F. refl; ranges = λ F. refl };

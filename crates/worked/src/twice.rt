@@ -1,6 +1,6 @@
 ghost use Rattle.std.specs.Prelude.{◌≡◌, [], true, is_ok};
 ghost use Rattle.storage.specs.Meaning.{held_acts, empty_held};
-ghost use Rattle.stroke.specs.Outcomes.{stroked};
+ghost use Rattle.stroke.specs.Outcomes.{request, stroked};
 
 use maths::host::MathsHost;
 use path::command::Command;
@@ -20,8 +20,16 @@ fn twice<S: Sink, K: MathsHost>(
     sink: &mut S,
     host: &mut K,
 ) -> (Result<Tally, Refusal>, Result<Tally, Refusal>)
-    ensures whole { let a = stroked S.acts held_acts K.acts budget (K.acts.functions host.old) commands.now style dashes.now sink.old (empty_held 128) host.old in let b = stroked S.acts held_acts K.acts budget (K.acts.functions a.host) commands.now style dashes.now a.sink (empty_held 128) a.host in (result.0 ≡ a.answer) × (result.1 ≡ b.answer) × (sink.new ≡ b.sink) × (host.new ≡ b.host) }
-    ensures alike { (S.acts.meaning sink.old).list ≡ [] → is_ok result.0 ≡ true → is_ok result.1 ≡ true → result.0 ≡ result.1 }
+    ensures whole {
+        let q = request commands.now style dashes.now budget in
+        let a = stroked S.acts held_acts K.acts q sink.old (empty_held 128) host.old in
+        let b = stroked S.acts held_acts K.acts q a.sink (empty_held 128) a.host in
+        (result.0 ≡ a.answer) × (result.1 ≡ b.answer) × (sink.new ≡ b.sink) × (host.new ≡ b.host)
+    }
+    ensures alike {
+        (S.acts.meaning sink.old).list ≡ [] → is_ok result.0 ≡ true → is_ok result.1 ≡ true
+            → result.0 ≡ result.1
+    }
 {
     let first = stroke_into(commands, style, dashes, budget, sink, host);
     let second = stroke_into(commands, style, dashes, budget, sink, host);
