@@ -19,7 +19,7 @@ returns g c =
     let functions = ap (λ (h : ByteTable). tabled (rows_in h.bytes.now)) c.new-host.ensures in
     let capacity = ap place_count c.new-storage.ensures ∙ c.requires.segments in
     let units : length c.args.places.now - 0 ≡ setting.places = omega (arith, c.requires.places) in
-    let empty : recorded c.new-list.result.lent ≡ empty_list setting.places =
+    let empty : recorded c.new-list.result ≡ empty_list setting.places =
     ap recorded c.new-list.ensures ∙ (λ i. record { list = []; units = units i; price = λ k. 1; map = λ c. c }) in
     let same = drawn_as (tabled (rows_in setting.rows.now)) setting.segments setting.places setting.budget (accepted c.args.job.now)
     (λ i. call (c.as_slice.ensures i) c.args.job.now.style (c.as_slice-2.ensures i) (functions i) (capacity i) setting.budget answer)
