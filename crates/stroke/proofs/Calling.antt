@@ -5,7 +5,7 @@ use lib.Ieee.{Float}
 use Rattle.std.proofs.lemmas.Bool.{cond_both}
 use Rattle.maths.specs.declared.host.Function.{Function}
 use Rattle.storage.specs.Meaning.{room}
-use Rattle.maths.specs.Functions.{Functions, HostActs}
+use Rattle.maths.specs.Functions.{HostActs}
 use Rattle.path.specs.declared.command.Command.{Command}
 use Rattle.path.specs.declared.style.Stroke.{Stroke}
 use Rattle.path.specs.declared.refusal.Reason.{Reason}
@@ -36,10 +36,11 @@ module _ {S B K : Type 0} (sinks : SinkActs S) (storages : StorageActs B) (hosts
   pub same_references : (t.sink.ghost_name ≡ sink.ghost_name) × (t.storage.ghost_name ≡ storage.ghost_name) × (t.host.ghost_name ≡ host.ghost_name)
   unfolding do_all
   same_references =
-      let names = ap (λ (d : Stroking S B K). d.by.names) drew in
-      (ap (λ (n : ℕ × ℕ × ℕ). n.0) names ∙ ap (λ (u : Stroker S B K). u.sink.ghost_name) is,
+      let names = ap (λ (d : Stroking S B K). d.by.names) drew in (
+        ap (λ (n : ℕ × ℕ × ℕ). n.0) names ∙ ap (λ (u : Stroker S B K). u.sink.ghost_name) is,
         ap (λ (n : ℕ × ℕ × ℕ). n.1) names ∙ ap (λ (u : Stroker S B K). u.storage.ghost_name) is,
-        ap (λ (n : ℕ × ℕ × ℕ). n.2) names ∙ ap (λ (u : Stroker S B K). u.host.ghost_name) is)
+        ap (λ (n : ℕ × ℕ × ℕ). n.2) names ∙ ap (λ (u : Stroker S B K). u.host.ghost_name) is,
+      )
 
   pub drawn_from_start : {n : ℕ} {s' : S} {b' : B} {k' : K} → n ≡ t.steps.taken → s' ≡ t.sink.now → b' ≡ t.storage.now → k' ≡ t.host.now
       → ◌≡◌ {A = Stage S B K} (record { sink = s'; storage = b'; host = k'; taken = n; ended = t.ended; stop = stop_of a })

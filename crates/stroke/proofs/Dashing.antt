@@ -1,6 +1,6 @@
 -- What a stroker does along the walk of a dasher.
-use Rattle.std.proofs.Common.{◌≡◌, ℕ, zero, suc, ◌+◌, ◌-◌, ◌<◌, ◌≤◌, ◌^◌, Bool, true, false, cond, List, [], ◌∷◌, ◌++◌, flat_map, length, is_err, IsErrAnd, Some, None, Option, Ok, Err, Result, sym, refl, ap, ◌∙◌, nat_le, nat_lt, ◌&&◌, not, arith}
-use Rattle.std.proofs.lemmas.Bool.{cond_both, leb-true}
+use Rattle.std.proofs.Common.{◌≡◌, ℕ, zero, suc, ◌+◌, ◌<◌, ◌≤◌, ◌^◌, Bool, true, false, cond, List, [], ◌∷◌, ◌++◌, flat_map, length, is_err, IsErrAnd, Some, None, Option, Ok, Err, Result, sym, refl, ap, ◌∙◌, nat_le, nat_lt, ◌&&◌, not, arith}
+use Rattle.std.proofs.lemmas.Bool.{leb-true}
 use Rattle.maths.specs.Functions.{Functions, HostActs}
 use Rattle.path.specs.declared.refusal.Reason.{Reason}
 use Rattle.path.specs.declared.refusal.Reason.TheVariants.{StepsSpent}
@@ -16,11 +16,9 @@ use Rattle.dashes.specs.Dashers.{seeks, sought, next_of, begun, goes_on as on_th
 use Rattle.dashes.specs.PatternValues.{values}
 use Rattle.dashes.specs.Patterns.{Dashes}
 use Rattle.dashes.specs.StepCounts.{most_steps}
-use Rattle.dashes.specs.Walks.{DashEvent, GivesWithin, walking, seeking, dash_walk}
-use Rattle.dashes.specs.Walks as walks
+use Rattle.dashes.specs.Walks.{GivesWithin, walking, seeking, dash_walk}
 use Rattle.stroke.specs.declared.stroker.Stroker.{Stroker}
-use Rattle.stroke.specs.Calls.{Action, steps, dash_actions, run_actions}
-use Rattle.stroke.specs.Outcomes.{perform}
+use Rattle.stroke.specs.Calls.{steps, dash_actions, run_actions}
 use Rattle.stroke.specs.Strokers.{Stroking, stroking, stop_of, do_all, Work, work, run_work, op_actions, goes_on, next_op, walked_on, Drawable, dash_step}
 use Rattle.stroke.proofs.Performing.{do_none, do_next, do_stopped, step_taken, then_work}
 
@@ -62,6 +60,7 @@ drawable d xs {op = op} said given = on (on_the_run (length xs) d.walk) refl
     done Continue _ = tt
     done (Emit r) wrong = absurd cc
     done Stroke _ = tt
+
     on : (b : Bool) → on_the_run (length xs) d.walk ≡ b → Drawable (length xs) op
     on true few = short_enough (length xs) op (few_on_the_run (length xs) d.walk few) given
     on false over =
@@ -132,17 +131,23 @@ module _ {S B K : Type 0} (sinks : SinkActs S) (storages : StorageActs B) (hosts
       let xs = storages.held d.stage.storage in
       let none = step_taken sinks storages hosts d.by.budget (op xs) F nib xs d.stage going in
       let last = step_taken sinks storages hosts d.by.budget Done F nib xs d.stage going in
-      let e = work sinks storages hosts (λ F nib xs. steps ∷ op_actions (op xs) F nib xs) d in
-      (0, omega arith, ap (λ l. do_all sinks storages hosts l d) (s.last F nib xs) ∙ (λ i. record d { stage = last.spent (omega (arith, enough)) i }) ∙ (λ i. record d { stage = sym (none.spent (omega (arith, enough))) i })
-      ∙ sym (do_stopped sinks storages hosts (after 0 F nib (storages.held e.stage.storage)) StepsSpent e (λ i. (none.spent (omega (arith, enough)) i).stop)))
+      let e = work sinks storages hosts (λ F nib xs. steps ∷ op_actions (op xs) F nib xs) d in (
+        0,
+        omega arith,
+        ap (λ l. do_all sinks storages hosts l d) (s.last F nib xs) ∙ (λ i. record d { stage = last.spent (omega (arith, enough)) i }) ∙ (λ i. record d { stage = sym (none.spent (omega (arith, enough))) i })
+            ∙ sym (do_stopped sinks storages hosts (after 0 F nib (storages.held e.stage.storage)) StepsSpent e (λ i. (none.spent (omega (arith, enough)) i).stop)),
+      )
   step_on op {before = before} {after = after} s (suc m) d going enough =
       let F = d.by.functions in
       let nib = d.by.nib in
       let xs = storages.held d.stage.storage in
       let taken = step_taken sinks storages hosts d.by.budget (op xs) F nib xs d.stage going in
-      let e = work sinks storages hosts (λ F nib xs. steps ∷ op_actions (op xs) F nib xs) d in
-      (m, omega arith, ap (λ l. do_all sinks storages hosts l d) (s.more m F nib xs) ∙ do_next sinks storages hosts (steps ∷ op_actions (op xs) F nib xs) (after m F nib xs) d
-      ∙ (λ i. do_all sinks storages hosts (after m F nib (storages.held (sym taken.stored i))) e))
+      let e = work sinks storages hosts (λ F nib xs. steps ∷ op_actions (op xs) F nib xs) d in (
+        m,
+        omega arith,
+        ap (λ l. do_all sinks storages hosts l d) (s.more m F nib xs) ∙ do_next sinks storages hosts (steps ∷ op_actions (op xs) F nib xs) (after m F nib xs) d
+            ∙ (λ i. do_all sinks storages hosts (after m F nib (storages.held (sym taken.stored i))) e),
+      )
 
   -- a step was taken
   pub record Stepped (b c : Stroker S B K) : Type 0 where

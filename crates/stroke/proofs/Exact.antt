@@ -1,5 +1,5 @@
 -- Where a u64 can count all that is done, no count is cut off.
-use Rattle.std.proofs.Common.{◌≡◌, ℕ, suc, ◌+◌, ◌^◌, ◌<◌, ◌≤◌, T, List, length, Result, refl, ap, ◌∙◌, arith}
+use Rattle.std.proofs.Common.{◌≡◌, ℕ, suc, ◌+◌, ◌^◌, ◌<◌, ◌≤◌, List, length, Result, refl, ap, ◌∙◌, arith}
 use Rattle.std.specs.Prelude.{Float}
 use Rattle.maths.specs.Functions.{Functions, HostActs}
 use Rattle.path.specs.declared.command.Command.{Command}
@@ -32,8 +32,8 @@ module _ {S B K : Type 0} (sinks : SinkActs S) (storages : StorageActs B) (hosts
   sees name = record {
     means = λ s. refl;
     takes_alike = λ n s c enough fits. (
-        (λ i. (sinks.took s.sink.now c, one_counted n s.sent enough.few i)),
-        record { few = omega (arith, enough.few, one_counted n s.sent enough.few); same = enough.same }
+      (λ i. (sinks.took s.sink.now c, one_counted n s.sent enough.few i)),
+      record { few = omega (arith, enough.few, one_counted n s.sent enough.few); same = enough.same },
     );
     fewer = λ n s enough. record { few = omega (arith, enough.few); same = enough.same };
     holds = λ b. refl;

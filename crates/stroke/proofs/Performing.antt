@@ -1,12 +1,10 @@
 -- What a stroker does, action by action.
-use Rattle.std.proofs.Common.{◌≡◌, ℕ, ◌+◌, ◌<◌, Bool, true, false, not, cond, T, List, [], ◌∷◌, ◌++◌, map, length, drop, ◌≤◌, Some, None, Option, Ok, Err, Result, sym, refl, ap, ◌∙◌, subst, nat_lt, nat_le, arith}
+use Rattle.std.proofs.Common.{◌≡◌, ℕ, ◌+◌, ◌<◌, Bool, true, false, not, cond, List, [], ◌∷◌, ◌++◌, map, ◌≤◌, Some, None, Option, Ok, Err, Result, sym, refl, ap, ◌∙◌, nat_lt, nat_le, arith}
 use Rattle.std.proofs.lemmas.Bool.{cond_both, ltb-true, leb-true, leb-false, lt-ltb, le-ltb}
 use Rattle.maths.specs.Functions.{Functions, HostActs}
-use Rattle.maths.specs.Questions.{Question, all_asked}
 use Rattle.path.specs.declared.refusal.Reason.{Reason}
 use Rattle.path.specs.declared.refusal.Reason.TheVariants.{StorageFull, StepsSpent}
 use Rattle.segments.specs.declared.segment.Segment.{Segment}
-use Rattle.segments.specs.declared.segment.Segment.TheVariants.{Line, Curve, End}
 use Rattle.sinks.specs.Meaning.{SinkActs}
 use Rattle.sinks.specs.declared.sink.Refused.{Refused}
 use Rattle.storage.specs.Meaning.{StorageActs, HasRoom, room}
@@ -18,16 +16,14 @@ use Rattle.dashes.specs.declared.dasher.DashOp.TheVariants.{Done, Continue, Emit
 use Rattle.dashes.specs.declared.steps.Spent.{Spent}
 use Rattle.dashes.specs.declared.steps.Steps.{Steps}
 use Rattle.dashes.specs.StepCounts.{spend_answer, spent_one}
-use Rattle.dashes.specs.Patterns.{Dashes}
-use Rattle.cursor.specs.Drawings as drawings
 use Rattle.stroke.specs.declared.stroker.Stroker.{Stroker}
 use Rattle.stroke.specs.Events.{Plan, Event, asks, Drawing, go_on, play, draw}
 use Rattle.stroke.specs.Events as events
 use Rattle.stroke.specs.Outlines.{outline}
 use Rattle.stroke.specs.Ranges.{dash_of}
-use Rattle.stroke.specs.Calls.{Action, clears, stores, ends, steps, draws, run_actions, run_by_run}
+use Rattle.stroke.specs.Calls.{Action, clears, stores, steps, draws}
 use Rattle.stroke.specs.Outcomes.{Stage, why_not, drawing_of, drawn, act_on, perform}
-use Rattle.stroke.specs.Strokers.{Stroking, stroking, why_full, why_spent, do_all, Work, work, acting, op_actions, taking}
+use Rattle.stroke.specs.Strokers.{Stroking, stroking, why_full, why_spent, do_all, Work, work, acting, op_actions}
 
 module _ {S B K : Type 0} (sinks : SinkActs S) (storages : StorageActs B) (hosts : HostActs K) where
   pub perform_append : (n : ℕ) (xs ys : List Action) (d : Stage S B K) → perform sinks storages hosts n (xs ++ ys) d ≡ perform sinks storages hosts n ys (perform sinks storages hosts n xs d)

@@ -1,5 +1,5 @@
 -- A stroke in one world of sinks, storages and hosts, seen from another, is a stroke there.
-use Rattle.std.proofs.Common.{◌≡◌, ℕ, suc, ◌+◌, Bool, true, false, cond, T, List, [], ◌∷◌, ◌++◌, length, is_ok, Some, None, Option, Ok, Err, Result, sym, refl, ap, ◌∙◌}
+use Rattle.std.proofs.Common.{◌≡◌, ℕ, suc, ◌+◌, Bool, true, false, cond, T, List, [], ◌∷◌, ◌++◌, length, is_ok, Some, None, Option, Result, sym, refl, ap, ◌∙◌}
 use Rattle.std.specs.Prelude.{Float}
 use Rattle.maths.specs.declared.host.Function.{Function}
 use Rattle.maths.specs.Functions.{Functions, HostActs, no_host, restricted}

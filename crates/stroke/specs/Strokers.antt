@@ -1,5 +1,5 @@
 -- What a stroker is seen as, and what it does with the run that its storage holds.
-use Rattle.std.specs.Prelude.{◌≡◌, ℕ, ◌^◌, ◌<◌, Bool, true, false, List, [], ◌∷◌, ◌++◌, map, flat_map, Some, None, Option, Ok, Err, Result}
+use Rattle.std.specs.Prelude.{◌≡◌, ℕ, ◌^◌, ◌<◌, Bool, true, false, List, [], ◌∷◌, ◌++◌, map, Some, None, Option, Ok, Err, Result}
 use Rattle.maths.specs.Functions.{Functions, HostActs}
 use Rattle.path.specs.declared.command.Command.{Command}
 use Rattle.lent.specs.declared.Full.{Full}
@@ -21,7 +21,6 @@ use Rattle.dashes.specs.Dashers.{next_of}
 use Rattle.dashes.specs.Patterns.{Dashes}
 use Rattle.dashes.specs.Walks.{Within}
 use Rattle.stroke.specs.declared.stroker.Stroker.{Stroker}
-use Rattle.stroke.specs.Events.{Plan}
 use Rattle.stroke.specs.Outlines.{outline}
 use Rattle.stroke.specs.Ranges.{dash_of}
 use Rattle.stroke.specs.Calls.{Action, clears, stores, ends, steps, draws, run_actions, run_by_run}

@@ -39,34 +39,30 @@ pub fn stroke_with_storage<S: Sink, B: Storage, K: MathsHost>(
     storage: &mut B,
     host: &mut K,
 ) -> Result<Tally, Refusal>
-    ensures whole {
-        record { answer = result; sink = sink.new; storage = storage.new; host = host.new }
-            ≡ stroked S.acts B.acts K.acts (request commands.now style dashes.now budget)
-                sink.old storage.old host.old
+    ensures whole { record {
+      answer = result;
+      sink = sink.new;
+      storage = storage.new;
+      host = host.new;
     }
-    ensures seen {
-        let o = stroked S.acts held_acts K.acts (request commands.now style dashes.now budget)
-            sink.old (held_by B.acts storage.old) host.old in
-        (result ≡ o.answer) × (sink.new ≡ o.sink) × (host.new ≡ o.host)
-    }
+        ≡ stroked S.acts B.acts K.acts (request commands.now style dashes.now budget)
+        sink.old storage.old host.old }
+    ensures seen { let o = stroked S.acts held_acts K.acts
+        (request commands.now style dashes.now budget)
+        sink.old (held_by B.acts storage.old) host.old in
+        (result ≡ o.answer) × (sink.new ≡ o.sink) × (host.new ≡ o.host) }
     ensures functions { K.acts.functions host.new ≡ K.acts.functions host.old }
-    ensures promised {
-        Promised
-            (call commands.now style dashes.now (K.acts.functions host.old)
-                (B.acts.capacity storage.old) budget result)
-            (S.acts.meaning sink.old) (S.acts.meaning sink.new)
-    }
-    ensures took {
-        let c = call commands.now style dashes.now (K.acts.functions host.old)
-            (B.acts.capacity storage.old) budget result in
-        sink.new ≡ after_taking S.acts (take (count result) (row_of c)) sink.old
-    }
-    ensures lawful {
-        (earlier : List Call) → History earlier (S.acts.meaning sink.old) → Lawful
-            (call commands.now style dashes.now (K.acts.functions host.old)
-                (B.acts.capacity storage.old) budget result ∷ earlier)
-            (S.acts.meaning sink.new)
-    }
+    ensures promised { Promised
+        (call commands.now style dashes.now (K.acts.functions host.old)
+        (B.acts.capacity storage.old) budget result)
+        (S.acts.meaning sink.old) (S.acts.meaning sink.new) }
+    ensures took { let c = call commands.now style dashes.now (K.acts.functions host.old)
+        (B.acts.capacity storage.old) budget result in
+        sink.new ≡ after_taking S.acts (take (count result) (row_of c)) sink.old }
+    ensures lawful { (earlier : List Call) → History earlier (S.acts.meaning sink.old) → Lawful
+        (call commands.now style dashes.now (K.acts.functions host.old)
+        (B.acts.capacity storage.old) budget result ∷ earlier)
+        (S.acts.meaning sink.new) }
 {
     admit_and_draw(commands, style, dashes, budget, sink, storage, host)
 }
@@ -80,27 +76,21 @@ pub fn stroke_into<S: Sink, K: MathsHost>(
     sink: &mut S,
     host: &mut K,
 ) -> Result<Tally, Refusal>
-    ensures whole {
-        let o = stroked S.acts held_acts K.acts (request commands.now style dashes.now budget)
-            sink.old (empty_held 128) host.old in
-        (result ≡ o.answer) × (sink.new ≡ o.sink) × (host.new ≡ o.host)
-    }
+    ensures whole { let o = stroked S.acts held_acts K.acts
+        (request commands.now style dashes.now budget)
+        sink.old (empty_held 128) host.old in
+        (result ≡ o.answer) × (sink.new ≡ o.sink) × (host.new ≡ o.host) }
     ensures functions { K.acts.functions host.new ≡ K.acts.functions host.old }
-    ensures promised {
-        Promised
-            (call commands.now style dashes.now (K.acts.functions host.old) 128 budget result)
-            (S.acts.meaning sink.old) (S.acts.meaning sink.new)
-    }
-    ensures took {
-        let c = call commands.now style dashes.now (K.acts.functions host.old) 128 budget result in
-        sink.new ≡ after_taking S.acts (take (count result) (row_of c)) sink.old
-    }
-    ensures lawful {
-        (earlier : List Call) → History earlier (S.acts.meaning sink.old) → Lawful
-            (call commands.now style dashes.now (K.acts.functions host.old) 128 budget result
-                ∷ earlier)
-            (S.acts.meaning sink.new)
-    }
+    ensures promised { Promised
+        (call commands.now style dashes.now (K.acts.functions host.old) 128 budget result)
+        (S.acts.meaning sink.old) (S.acts.meaning sink.new) }
+    ensures took { let c = call commands.now style dashes.now (K.acts.functions host.old) 128
+        budget result in
+        sink.new ≡ after_taking S.acts (take (count result) (row_of c)) sink.old }
+    ensures lawful { (earlier : List Call) → History earlier (S.acts.meaning sink.old) → Lawful
+        (call commands.now style dashes.now (K.acts.functions host.old) 128 budget result
+        ∷ earlier)
+        (S.acts.meaning sink.new) }
 {
     let mut storage = Storage128::new();
     stroke_with_storage(commands, style, dashes, budget, sink, &mut storage, host)
@@ -117,11 +107,14 @@ fn admit_and_draw<S: Sink, B: Storage, K: MathsHost>(
     storage: &mut B,
     host: &mut K,
 ) -> Result<Tally, Refusal>
-    ensures {
-        record { answer = result; sink = sink.new; storage = storage.new; host = host.new }
-            ≡ stroked S.acts B.acts K.acts (request commands.now style dashes.now budget)
-                sink.old storage.old host.old
+    ensures { record {
+      answer = result;
+      sink = sink.new;
+      storage = storage.new;
+      host = host.new;
     }
+        ≡ stroked S.acts B.acts K.acts (request commands.now style dashes.now budget)
+        sink.old storage.old host.old }
 {
     admit(commands, style, dashes, budget)?;
     draw_counted(commands, style, dashes, budget, sink, storage, host)
@@ -139,12 +132,15 @@ fn draw_counted<S: Sink, B: Storage, K: MathsHost>(
 ) -> Result<Tally, Refusal>
     requires few { length commands.now ≤ 4096 }
     requires budget { budget ≤ most_steps }
-    ensures {
-        record { answer = result; sink = sink.new; storage = storage.new; host = host.new }
-            ≡ outcome (perform (counted S.acts) B.acts K.acts budget
-                (stroke_actions (K.acts.functions host.old) commands.now style dashes.now)
-                (at_start (sink.old, 0) storage.old host.old))
+    ensures { record {
+      answer = result;
+      sink = sink.new;
+      storage = storage.new;
+      host = host.new;
     }
+        ≡ outcome (perform (counted S.acts) B.acts K.acts budget
+        (stroke_actions (K.acts.functions host.old) commands.now style dashes.now)
+        (at_start (sink.old, 0) storage.old host.old)) }
 {
     let mut counted = Counted::new(sink);
     let drawn = draw(commands, style, dashes, budget, &mut counted, storage, host);
@@ -171,15 +167,17 @@ fn draw<'a, S: Sink, B: Storage, K: MathsHost>(
 ) -> Drawn
     requires few { length commands.now ≤ 4096 }
     requires budget { budget ≤ most_steps }
-    ensures {
-        record {
-            sink = sink.new; storage = storage.new; host = host.new;
-            taken = result.steps; ended = result.ended; stop = stop_of result.answer
-        }
-            ≡ perform S.acts B.acts K.acts budget
-                (stroke_actions (K.acts.functions host.old) commands.now style dashes.now)
-                (at_start sink.old storage.old host.old)
+    ensures { record {
+      sink = sink.new;
+      storage = storage.new;
+      host = host.new;
+      taken = result.steps;
+      ended = result.ended;
+      stop = stop_of result.answer;
     }
+        ≡ perform S.acts B.acts K.acts budget
+        (stroke_actions (K.acts.functions host.old) commands.now style dashes.now)
+        (at_start sink.old storage.old host.old) }
 {
     let pattern = Pattern::new(dashes, style.offset);
     let nib = Pen::new(style).nib();

@@ -84,7 +84,14 @@ impl<'a, S: Sink, B: Storage, K: MathsHost> Stroker<'a, S, B, K> {
         storage: &'a mut B,
         host: &'a mut K,
     ) -> Stroker<'a, S, B, K>
-        ensures { result ≡ record { sink = sink.entry; host = host.entry; nib = nib; storage = storage.entry; steps = none_taken budget; ended = 0 } }
+        ensures { result ≡ record {
+          sink = sink.entry;
+          host = host.entry;
+          storage = storage.entry;
+          nib = nib;
+          steps = none_taken budget;
+          ended = 0;
+        } }
     {
         Stroker {
             sink,
@@ -98,10 +105,8 @@ impl<'a, S: Sink, B: Storage, K: MathsHost> Stroker<'a, S, B, K> {
 
     // One dash step.
     fn spend(&mut self) -> Result<(), Reason>
-        ensures {
-            stroking K.acts self.new (stop_of result)
-                ≡ work S.acts B.acts K.acts (acting steps) (stroking K.acts self.old None)
-        }
+        ensures { stroking K.acts self.new (stop_of result)
+            ≡ work S.acts B.acts K.acts (acting steps) (stroking K.acts self.old None) }
     {
         refused_by_budget(self.steps.spend())
     }
@@ -109,30 +114,24 @@ impl<'a, S: Sink, B: Storage, K: MathsHost> Stroker<'a, S, B, K> {
     #[tactic(auto, using(crate::proofs::Performing::do_clears))]
     // The storage is emptied for a run.
     fn clear(&mut self)
-        ensures {
-            stroking K.acts self.new None
-                ≡ work S.acts B.acts K.acts (acting clears) (stroking K.acts self.old None)
-        }
+        ensures { stroking K.acts self.new None
+            ≡ work S.acts B.acts K.acts (acting clears) (stroking K.acts self.old None) }
     {
         self.storage.clear();
     }
 
     // One segment more of the run.
     fn store(&mut self, segment: Segment) -> Result<(), Reason>
-        ensures {
-            stroking K.acts self.new (stop_of result)
-                ≡ work S.acts B.acts K.acts (acting (stores segment)) (stroking K.acts self.old None)
-        }
+        ensures { stroking K.acts self.new (stop_of result)
+            ≡ work S.acts B.acts K.acts (acting (stores segment)) (stroking K.acts self.old None) }
     {
         refused_by_storage(self.storage.push(segment))
     }
 
     // The outline of the run that the storage holds.
     fn draw_plain(&mut self, closed: bool) -> Result<(), Reason>
-        ensures {
-            stroking K.acts self.new (stop_of result)
-                ≡ work S.acts B.acts K.acts (plain closed) (stroking K.acts self.old None)
-        }
+        ensures { stroking K.acts self.new (stop_of result)
+            ≡ work S.acts B.acts K.acts (plain closed) (stroking K.acts self.old None) }
     {
         let mut outliner = Outliner {
             sink: self.sink,
@@ -150,10 +149,8 @@ impl<'a, S: Sink, B: Storage, K: MathsHost> Stroker<'a, S, B, K> {
     fn draw_dash(&mut self, range: Range) -> Result<(), Reason>
         requires within { Within (length (B.acts.held self.old.storage.now)) range }
         requires few { length (B.acts.held self.old.storage.now) < 2 ^ 63 }
-        ensures {
-            stroking K.acts self.new (stop_of result)
-                ≡ work S.acts B.acts K.acts (dash range) (stroking K.acts self.old None)
-        }
+        ensures { stroking K.acts self.new (stop_of result)
+            ≡ work S.acts B.acts K.acts (dash range) (stroking K.acts self.old None) }
     {
         let mut outliner = Outliner {
             sink: self.sink,
@@ -168,10 +165,8 @@ impl<'a, S: Sink, B: Storage, K: MathsHost> Stroker<'a, S, B, K> {
     // What a dasher gave.
     fn draw_op(&mut self, op: DashOp) -> Result<(), Reason>
         requires { Drawable (length (B.acts.held self.old.storage.now)) op }
-        ensures {
-            stroking K.acts self.new (stop_of result)
-                ≡ work S.acts B.acts K.acts (op_actions op) (stroking K.acts self.old None)
-        }
+        ensures { stroking K.acts self.new (stop_of result)
+            ≡ work S.acts B.acts K.acts (op_actions op) (stroking K.acts self.old None) }
     {
         match op {
             DashOp::Done | DashOp::Continue => Ok(()),
@@ -182,13 +177,10 @@ impl<'a, S: Sink, B: Storage, K: MathsHost> Stroker<'a, S, B, K> {
 
     // One step along the run; answers whether the walk goes on.
     fn dash_step(&mut self, dasher: &mut Dasher) -> Result<bool, Reason>
-        ensures drew {
-            stroking K.acts self.new (stop_of result)
-                ≡ work S.acts B.acts K.acts (dash_step dasher.old) (stroking K.acts self.old None)
-        }
-        ensures walked {
-            IfOk result (Walked dasher.old (B.acts.held self.old.storage.now) dasher.new)
-        }
+        ensures drew { stroking K.acts self.new (stop_of result)
+            ≡ work S.acts B.acts K.acts (dash_step dasher.old) (stroking K.acts self.old None) }
+        ensures walked { IfOk result
+            (Walked dasher.old (B.acts.held self.old.storage.now) dasher.new) }
     {
         self.spend()?;
         let op = dasher.next(self.storage);
@@ -200,11 +192,9 @@ impl<'a, S: Sink, B: Storage, K: MathsHost> Stroker<'a, S, B, K> {
     fn draw_dashed(&mut self, pattern: Pattern, closed: bool) -> Result<(), Reason>
         requires some { 0 < length (B.acts.held self.old.storage.now) }
         requires budget { self.old.steps.budget ≤ most_steps }
-        ensures {
-            stroking K.acts self.new (stop_of result)
-                ≡ work S.acts B.acts K.acts (run_work (Some (values pattern.entry)) closed)
-                    (stroking K.acts self.old None)
-        }
+        ensures { stroking K.acts self.new (stop_of result)
+            ≡ work S.acts B.acts K.acts (run_work (Some (values pattern.entry)) closed)
+            (stroking K.acts self.old None) }
     {
         let mut dasher = Dasher::init(closed, pattern);
         while dasher.seeks() {
@@ -222,11 +212,9 @@ impl<'a, S: Sink, B: Storage, K: MathsHost> Stroker<'a, S, B, K> {
     // The run that the storage holds, plain or with a pattern; an empty one does nothing.
     fn draw_run(&mut self, pattern: Option<Pattern>, closed: bool) -> Result<(), Reason>
         requires budget { self.old.steps.budget ≤ most_steps }
-        ensures {
-            stroking K.acts self.new (stop_of result)
-                ≡ work S.acts B.acts K.acts (run_work (option_map values pattern.entry) closed)
-                    (stroking K.acts self.old None)
-        }
+        ensures { stroking K.acts self.new (stop_of result)
+            ≡ work S.acts B.acts K.acts (run_work (option_map values pattern.entry) closed)
+            (stroking K.acts self.old None) }
     {
         if self.storage.len() == 0 {
             return Ok(());
@@ -241,11 +229,9 @@ impl<'a, S: Sink, B: Storage, K: MathsHost> Stroker<'a, S, B, K> {
     fn end_run(&mut self, pattern: Option<Pattern>, closed: bool) -> Result<(), Reason>
         requires budget { self.old.steps.budget ≤ most_steps }
         requires few { self.old.ended + 1 < 2 ^ 64 }
-        ensures {
-            stroking K.acts self.new (stop_of result)
-                ≡ work S.acts B.acts K.acts (taking (option_map values pattern.entry) (End closed))
-                    (stroking K.acts self.old None)
-        }
+        ensures { stroking K.acts self.new (stop_of result)
+            ≡ work S.acts B.acts K.acts (taking (option_map values pattern.entry) (End closed))
+            (stroking K.acts self.old None) }
     {
         self.ended += 1;
         self.draw_run(pattern, closed)?;
@@ -257,11 +243,9 @@ impl<'a, S: Sink, B: Storage, K: MathsHost> Stroker<'a, S, B, K> {
     fn take(&mut self, pattern: Option<Pattern>, segment: Segment) -> Result<(), Reason>
         requires budget { self.old.steps.budget ≤ most_steps }
         requires few { self.old.ended + 1 < 2 ^ 64 }
-        ensures {
-            stroking K.acts self.new (stop_of result)
-                ≡ work S.acts B.acts K.acts (taking (option_map values pattern.entry) segment)
-                    (stroking K.acts self.old None)
-        }
+        ensures { stroking K.acts self.new (stop_of result)
+            ≡ work S.acts B.acts K.acts (taking (option_map values pattern.entry) segment)
+            (stroking K.acts self.old None) }
     {
         match segment {
             Segment::End(closed) => self.end_run(pattern, closed),
@@ -278,11 +262,9 @@ impl<'a, S: Sink, B: Storage, K: MathsHost> Stroker<'a, S, B, K> {
         requires budget { self.old.steps.budget ≤ most_steps }
         requires fresh { self.old.ended ≡ 0 }
         requires few { length commands.now ≤ 4096 }
-        ensures {
-            stroking K.acts self.new (stop_of result)
-                ≡ work S.acts B.acts K.acts (whole (option_map values pattern.entry) commands.now)
-                    (stroking K.acts self.old None)
-        }
+        ensures { stroking K.acts self.new (stop_of result)
+            ≡ work S.acts B.acts K.acts (whole (option_map values pattern.entry) commands.now)
+            (stroking K.acts self.old None) }
     {
         let mut cursor = Segments::new(true);
         self.clear();

@@ -1,4 +1,4 @@
-use Rattle.std.proofs.Common.{Some, None, sym, refl, ap, ◌∙◌, arith}
+use Rattle.std.proofs.Common.{sym, refl, ap, ◌∙◌, arith}
 use Rattle.dashes.specs.declared.dasher.Dasher.{Dasher}
 use Rattle.dashes.specs.declared.dasher.DashOp.TheVariants.{Continue}
 use Rattle.dashes.specs.PatternValues.{values}

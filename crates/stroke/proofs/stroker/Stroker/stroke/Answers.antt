@@ -1,4 +1,4 @@
-use Rattle.std.proofs.Common.{option_map, refl, sym, ap, ◌∙◌, arith}
+use Rattle.std.proofs.Common.{option_map, refl, ap, ◌∙◌, arith}
 use Rattle.dashes.specs.PatternValues.{values}
 use Rattle.stroke.specs.Strokers.{stroking, whole}
 use Rattle.stroke.proofs.Dashing.{passed_on}

@@ -15,7 +15,7 @@ invariant-loop-segment g l =
     let pattern = option_map values l.pattern in
     record {
       few : l.self.ended + left (seen l.cursor) (rest l.cursor l.commands) ≤ 17 * length l.commands;
-      leads : work sinks storages hosts (runs_left pattern (still_given l.cursor l.commands)) (stroking hosts l.self None) ≡ work sinks storages hosts (whole pattern l.commands) (stroking hosts l.fn.self None)
+      leads : work sinks storages hosts (runs_left pattern (still_given l.cursor l.commands)) (stroking hosts l.self None) ≡ work sinks storages hosts (whole pattern l.commands) (stroking hosts l.fn.self None);
     }
 
 abbrev pub decreases-loop-segment : goal.decreases-loop-segment
