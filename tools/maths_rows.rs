@@ -1,8 +1,8 @@
-//! Writes the rows that `maths_figures` reads: arguments from a fixed generator, and the answers of
+//! Writes the rows that `replay_maths` reads: arguments from a fixed generator, and the answers of
 //! Rust's own `f32` functions. A row is the function's number, the bits of the argument and the bits
 //! of the answer, the highest byte first.
 //!
-//! rustc -O tools/maths_rows.rs -o maths_rows && ./maths_rows > crates/maths_figures/stdin
+//! rustc -O tools/maths_rows.rs -o maths_rows && ./maths_rows > crates/replay_maths/stdin
 use std::io::Write;
 
 const ROWS: usize = 2400;

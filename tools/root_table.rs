@@ -1,7 +1,7 @@
-//! Writes the table that the crate `numbers_tests` is run on: `stdin` with a step and a bit pattern
+//! Writes the table that the crate `replay_roots` is run on: `stdin` with a step and a bit pattern
 //! to a line, and `stdout` with the pattern of the answer of the machine's own step.
 //!
-//!     rustc -O -o root_table tools/root_table.rs && ./root_table crates/numbers_tests
+//!     rustc -O -o root_table tools/root_table.rs && ./root_table crates/replay_roots
 use std::fmt::Write;
 
 fn root_arguments(next: &mut impl FnMut() -> u32) -> Vec<u32> {

@@ -1,6 +1,6 @@
 //! Calls each function and checks what it answers and what the bytes hold: cases of docs/RULES.md and
 //! docs/FORMATS.md, and the stored strokes of the Rust.
-//!   test_rs crates/replays/stdin crates/replays/stdout
+//!   test_rs crates/replay_strokes/stdin crates/replay_strokes/stdout
 mod stroke;
 
 use std::fs;

@@ -4,3 +4,4 @@ pub mod Quarters
 mod Turns
 mod Unsigned
 mod Points
+pub mod Sends

@@ -4,3 +4,4 @@ pub mod Sweeps
 pub mod Chords
 pub mod Ends
 pub mod Laws
+pub mod LoneArcs

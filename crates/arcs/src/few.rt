@@ -1,8 +1,8 @@
 ghost use Rattle.std.specs.Prelude.{◌≡◌};
-ghost use Rattle.fixed.specs.Places.{filled};
+ghost use Rattle.lists.specs.Fixed.{filled};
 ghost use Rattle.path.specs.declared.command.Command.TheVariants.{Close};
 
-use fixed::FixedList;
+use lists::fixed::FixedList;
 use path::command::Command;
 
 /// Up to four commands, in order.

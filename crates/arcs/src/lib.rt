@@ -1,5 +1,5 @@
 //! Arcs of ellipses as cubic curves, as the notes on SVG 1.1's elliptical arc commands (F.6.5 and F.6.6) work
-//! them out.
+//! them out, and an arc by itself, sent into a sink.
 #![tactic(auto)]
 
 pub mod arc_to;
@@ -9,5 +9,7 @@ pub mod ellipse;
 mod ends;
 pub mod few;
 pub mod frame;
+pub mod lone_arc;
 pub mod radii;
+mod sending;
 pub mod sweep;

@@ -12,8 +12,8 @@ use Rattle.path.specs.declared.command.Command.TheVariants.{MoveTo, LineTo, Curv
 use Rattle.path.specs.Vectors.{near_by}
 use Rattle.curves.specs.declared.curve.Curve.{Curve}
 use Rattle.curves.specs.Curves.{curve, from_quadratic, merge_epsilon}
-use Rattle.pieces.specs.Cuts.{cut_up}
-use Rattle.pieces.proofs.Few.{cut_up_few}
+use Rattle.cursor.specs.Cuts.{cut_up}
+use Rattle.cursor.proofs.Few.{cut_up_few}
 use Rattle.segments.specs.declared.mark.SegmentId.{SegmentId}
 use Rattle.segments.specs.declared.segment.Segment.{Segment}
 use Rattle.cursor.specs.declared.subpath.Subpath.{Subpath}

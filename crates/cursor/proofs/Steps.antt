@@ -7,7 +7,7 @@ use Rattle.maths.specs.Questions.{all_asked}
 use Rattle.maths.specs.declared.host.Function.{Function}
 use Rattle.path.specs.declared.command.Command.{Command}
 use Rattle.curves.specs.declared.curve.Curve.{Curve}
-use Rattle.cursor.specs.declared.cursor.Segments.{Segments}
+use Rattle.cursor.specs.declared.walk.Segments.{Segments}
 use Rattle.cursor.specs.Cursors.{seen, rest}
 use Rattle.cursor.specs.Machines.{Step, Turn, done, step, step_at, any, waits, piece, read, read_questions}
 use Rattle.cursor.proofs.Lists.{left_some, left_none}

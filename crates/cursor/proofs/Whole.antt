@@ -11,7 +11,7 @@ use Rattle.numbers.specs.Arithmetic.{zero}
 use Rattle.path.specs.Vectors.{vector, near_by}
 use Rattle.curves.specs.declared.curve.Curve.{Curve as CubicCurve}
 use Rattle.curves.specs.Curves.{curve, from_quadratic, merge_epsilon, two_legs_near}
-use Rattle.pieces.specs.Cuts.{cut_up}
+use Rattle.cursor.specs.Cuts.{cut_up}
 use Rattle.segments.specs.declared.mark.SegmentId.{SegmentId}
 use Rattle.segments.specs.declared.segment.Segment.{Segment}
 use Rattle.segments.specs.declared.segment.Segment.TheVariants.{Line, Curve, End}

@@ -4,8 +4,8 @@ use Rattle.numbers.specs.Arithmetic.{zero}
 use Rattle.path.specs.declared.command.Command.{Command}
 use Rattle.path.specs.Vectors.{vector}
 use Rattle.segments.specs.Marks.{marked}
-use Rattle.cursor.specs.declared.cursor.Segments.{Segments}
-use Rattle.cursor.specs.declared.cursor.machine.Machine.{Machine as State}
+use Rattle.cursor.specs.declared.walk.Segments.{Segments}
+use Rattle.cursor.specs.declared.walk.machine.Machine.{Machine as State}
 use Rattle.cursor.specs.Subpaths.{begun}
 use Rattle.cursor.specs.Machines.{Machine, machine}
 

@@ -4,3 +4,4 @@ pub mod Giving
 pub mod Laws
 pub mod Machines
 pub mod Subpaths
+pub mod Cuts

@@ -10,7 +10,7 @@ use Rattle.path.specs.Vectors.{near_by}
 use Rattle.curves.specs.declared.curve.Curve.{Curve as CubicCurve}
 use Rattle.curves.specs.Lines.{line}
 use Rattle.curves.specs.Curves.{curve, from_quadratic, merge_epsilon}
-use Rattle.pieces.specs.Cuts.{cut_up, cut_questions}
+use Rattle.cursor.specs.Cuts.{cut_up, cut_questions}
 use Rattle.segments.specs.declared.mark.SegmentId.{SegmentId}
 use Rattle.segments.specs.declared.segment.Segment.{Segment}
 use Rattle.segments.specs.declared.segment.Segment.TheVariants.{Line, Curve, End}

@@ -2,3 +2,5 @@ mod Chords
 mod Times
 mod LineTimes
 mod Reversing
+pub mod Within
+pub mod Rising

@@ -1,2 +1,5 @@
 pub mod Lines
 pub mod Curves
+pub mod Ranges
+pub mod Roots
+pub mod Bends

@@ -6,15 +6,15 @@ use Rattle.std.specs.Borrow.{Bor}
 use Rattle.std.specs.Float.{float_zero}
 use denote.Ref.{MutBor}
 use lib.Ieee.{Float, nan}
-use Rattle.lent.specs.declared.Lent.{Lent}
-use Rattle.lent.specs.Lists.{items, empty, room, pushed}
+use Rattle.lists.specs.declared.lent.Lent.{Lent}
+use Rattle.lists.specs.Lent.{items, empty, room, pushed}
 use Rattle.path.specs.declared.command.Command.{Command}
 use Rattle.path.specs.declared.command.Command.TheVariants.{Close}
 use Rattle.path.specs.declared.refusal.Reason.{Reason}
 use Rattle.path.specs.declared.refusal.Refusal.{Refusal}
-use Rattle.codec.specs.declared.item.Item.{Item}
-use Rattle.codec.specs.declared.item.Item.TheVariants.{Width, Join, MiterLimit, StartCap, EndCap, Offset, Dash, Path}
-use Rattle.codec.specs.Reading.{first}
+use Rattle.job.specs.declared.item.Item.{Item}
+use Rattle.job.specs.declared.item.Item.TheVariants.{Width, Join, MiterLimit, StartCap, EndCap, Offset, Dash, Path}
+use Rattle.job.specs.Reading.{first}
 use Rattle.job.specs.declared.reader.JobReader.{JobReader}
 use Rattle.job.specs.declared.whole.Job.{Job}
 use Rattle.job.specs.Readers.{start, left, moved, refusal}

@@ -2,8 +2,8 @@
 use Rattle.std.proofs.Common.{◌≡◌, ℕ, suc, ◌+◌, ◌<◌, true, List, [], ◌∷◌, ◌++◌, length, sym, refl, ap, ◌∙◌, append_assoc, append-nil, arith, length-set, length-take}
 use Rattle.std.proofs.lemmas.List.{take_more_set}
 use Rattle.std.proofs.lemmas.Bool.{and_from, lt-ltb}
-use Rattle.lent.specs.declared.Lent.{Lent}
-use Rattle.lent.specs.Lists.{items, pushed}
+use Rattle.lists.specs.declared.lent.Lent.{Lent}
+use Rattle.lists.specs.Lent.{items, pushed}
 use Rattle.job.specs.Jobs.{has_place, takes, pushed_all}
 use Rattle.job.specs.Laws.{EnoughPlaces}
 

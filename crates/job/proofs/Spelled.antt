@@ -2,10 +2,10 @@
 use Rattle.std.proofs.Common.{◌≡◌, ℕ, length, drop, Option, Result, sym, refl, ap, ◌∙◌}
 use Rattle.std.proofs.lemmas.List.{drop_at, drop-drop}
 use Rattle.path.specs.declared.refusal.Reason.{Reason}
-use Rattle.codec.specs.declared.item.Item.{Item}
-use Rattle.codec.specs.Spelling.{spelled}
-use Rattle.codec.specs.Reading.{first}
-use Rattle.codec.proofs.Round.{read_first}
+use Rattle.job.specs.declared.item.Item.{Item}
+use Rattle.job.specs.Spelling.{spelled}
+use Rattle.job.specs.Reading.{first}
+use Rattle.job.proofs.Round.{read_first}
 use Rattle.job.specs.declared.reader.JobReader.{JobReader}
 use Rattle.job.specs.Readers.{left}
 use Rattle.job.specs.Laws.{FindsSpelled}

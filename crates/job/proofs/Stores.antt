@@ -2,10 +2,10 @@
 use Rattle.std.proofs.Common.{◌≡◌, ℕ, suc, ◌<◌, true, List, [], ◌∷◌, ◌++◌, length, Ok, sym, refl, ap, ◌∙◌, subst, append_assoc, append-nil, add-zero, arith, length-append}
 use Rattle.std.proofs.lemmas.Bool.{and_from}
 use Rattle.std.specs.List.{flat_map}
-use Rattle.lent.specs.Lists.{items}
-use Rattle.codec.specs.declared.item.Item.{Item}
-use Rattle.codec.specs.Spelling.{Fitting, spelled}
-use Rattle.codec.specs.Reading.{first}
+use Rattle.lists.specs.Lent.{items}
+use Rattle.job.specs.declared.item.Item.{Item}
+use Rattle.job.specs.Spelling.{Fitting, spelled}
+use Rattle.job.specs.Reading.{first}
 use Rattle.job.specs.declared.reader.JobReader.{JobReader}
 use Rattle.job.specs.declared.whole.Job.{Job}
 use Rattle.job.specs.Readers.{left, moved}

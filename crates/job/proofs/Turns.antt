@@ -2,9 +2,9 @@
 use Rattle.std.proofs.Common.{◌≡◌, ℕ, zero, suc, ◌+◌, ◌<◌, ◌≤◌, Bool, true, false, length, Some, None, Ok, Err, Option, Result, refl, ap, ◌∙◌, subst, arith, length-drop}
 use Rattle.path.specs.declared.refusal.Reason.{Reason}
 use Rattle.path.specs.declared.refusal.Refusal.{Refusal}
-use Rattle.codec.specs.declared.item.Item.{Item}
-use Rattle.codec.specs.Reading.{first, Within}
-use Rattle.codec.proofs.Firsts.{within_at}
+use Rattle.job.specs.declared.item.Item.{Item}
+use Rattle.job.specs.Reading.{first, Within}
+use Rattle.job.proofs.Firsts.{within_at}
 use Rattle.job.specs.declared.reader.JobReader.{JobReader}
 use Rattle.job.specs.declared.whole.Job.{Job}
 use Rattle.job.specs.Readers.{left, moved}

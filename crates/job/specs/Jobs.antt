@@ -1,15 +1,15 @@
 -- What a job holds, and what an item adds to it.
 use Rattle.std.specs.Prelude.{ℕ, Bool, true, if◌then◌else◌, ◌&&◌, List, [], ◌∷◌, length, Ok, Err, Result, nat_lt, Float}
 use denote.Ref.{MutBor}
-use Rattle.lent.specs.declared.Lent.{Lent}
-use Rattle.lent.specs.Lists.{items, empty, room, pushed}
+use Rattle.lists.specs.declared.lent.Lent.{Lent}
+use Rattle.lists.specs.Lent.{items, empty, room, pushed}
 use Rattle.path.specs.declared.command.Command.{Command}
 use Rattle.path.specs.declared.refusal.Reason.{Reason}
 use Rattle.path.specs.declared.refusal.Reason.TheVariants.{ListFull}
 use Rattle.path.specs.declared.style.Stroke.{Stroke}
 use Rattle.path.specs.Styles.{plain}
-use Rattle.codec.specs.declared.item.Item.{Item}
-use Rattle.codec.specs.declared.item.Item.TheVariants.{Width, Join, MiterLimit, StartCap, EndCap, Offset, Dash, Path}
+use Rattle.job.specs.declared.item.Item.{Item}
+use Rattle.job.specs.declared.item.Item.TheVariants.{Width, Join, MiterLimit, StartCap, EndCap, Offset, Dash, Path}
 use Rattle.job.specs.declared.whole.Job.{Job}
 
 -- before anything is read

@@ -1,12 +1,12 @@
 -- What is spelled is what is read, of items whose numbers are of f32.
 use Rattle.std.specs.Prelude.{◌≡◌, ℕ, ◌+◌, ◌≤◌, min, List, [], ◌∷◌, ◌++◌, length, Some, Ok, fold, Option, Result}
 use Rattle.std.specs.List.{flat_map}
-use Rattle.lent.specs.declared.Lent.{Lent}
-use Rattle.lent.specs.Lists.{items}
+use Rattle.lists.specs.declared.lent.Lent.{Lent}
+use Rattle.lists.specs.Lent.{items}
 use Rattle.path.specs.declared.refusal.Reason.{Reason}
 use Rattle.path.specs.declared.refusal.Refusal.{Refusal}
-use Rattle.codec.specs.declared.item.Item.{Item}
-use Rattle.codec.specs.Spelling.{Fitting, spelled}
+use Rattle.job.specs.declared.item.Item.{Item}
+use Rattle.job.specs.Spelling.{Fitting, spelled}
 use Rattle.job.specs.declared.reader.JobReader.{JobReader}
 use Rattle.job.specs.declared.whole.Job.{Job}
 use Rattle.job.specs.Readers.{left, moved}

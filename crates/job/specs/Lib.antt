@@ -4,3 +4,12 @@ pub mod Jobs
 pub mod Whole
 pub mod Laws
 pub mod Sayings
+pub mod Spelling
+pub mod Reading
+pub mod Writing
+pub mod ByteSinkLaws
+pub mod ByteSinks
+pub mod Decoding
+pub mod ReadBack
+pub mod TapeLaws
+pub mod Tapes

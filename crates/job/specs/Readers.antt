@@ -3,8 +3,8 @@ use Rattle.std.specs.Prelude.{ℕ, ◌+◌, List, drop, Some, None, Ok, Err, Opt
 use Rattle.std.specs.Borrow.{Bor}
 use Rattle.path.specs.declared.refusal.Reason.{Reason}
 use Rattle.path.specs.declared.refusal.Refusal.{Refusal}
-use Rattle.codec.specs.declared.item.Item.{Item}
-use Rattle.codec.specs.Reading.{first}
+use Rattle.job.specs.declared.item.Item.{Item}
+use Rattle.job.specs.Reading.{first}
 use Rattle.job.specs.declared.reader.JobReader.{JobReader}
 
 -- at the first byte

@@ -2,7 +2,7 @@
 use Rattle.std.specs.Prelude.{◌≡◌, ℕ, suc, ◌<◌, List, length, Result, replicate, nat_lt, Float}
 use Rattle.std.specs.Float.{float_zero}
 use denote.Ref.{MutBor}
-use Rattle.lent.specs.Lists.{items}
+use Rattle.lists.specs.Lent.{items}
 use Rattle.path.specs.declared.command.Command.{Command}
 use Rattle.path.specs.declared.command.Command.TheVariants.{Close}
 use Rattle.path.specs.declared.refusal.Refusal.{Refusal}

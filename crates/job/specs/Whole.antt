@@ -3,8 +3,8 @@ use Rattle.std.specs.Prelude.{ℕ, zero, suc, Bool, true, false, length, Some, N
 use Rattle.path.specs.declared.refusal.Reason.{Reason}
 use Rattle.path.specs.declared.refusal.Reason.TheVariants.{ListFull}
 use Rattle.path.specs.declared.refusal.Refusal.{Refusal}
-use Rattle.codec.specs.declared.item.Item.{Item}
-use Rattle.codec.specs.Reading.{first}
+use Rattle.job.specs.declared.item.Item.{Item}
+use Rattle.job.specs.Reading.{first}
 use Rattle.job.specs.declared.reader.JobReader.{JobReader}
 use Rattle.job.specs.declared.whole.Job.{Job}
 use Rattle.job.specs.Readers.{left, moved, refusal}

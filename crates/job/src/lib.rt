@@ -1,6 +1,13 @@
-//! Reads a job: item by item, or whole, into lists that the caller lends.
+//! Jobs: what one is made of and how it is spelled in bytes, its reader, and two sinks that write its bytes.
 #![tactic(auto)]
 
-mod letters;
+pub mod byte_sink;
+pub mod float;
+mod history;
+pub mod item;
+pub mod letter;
+mod operands;
 pub mod reader;
+pub mod tape;
 pub mod whole;
+pub mod writer;

@@ -1,9 +1,9 @@
 ghost use Rattle.std.specs.Prelude.{◌≡◌, if◌then◌else◌};
-ghost use Rattle.lent.specs.Lists.{pushed};
+ghost use Rattle.lists.specs.Lent.{pushed};
 ghost use Rattle.job.specs.Jobs.{has_place, list_answer, empty_job, stored_answer, stored_job};
 
-use codec::item::Item;
-use lent::Lent;
+use crate::item::Item;
+use lists::lent::Lent;
 use path::command::Command;
 use path::refusal::Reason;
 use path::style::Stroke;

@@ -5,7 +5,7 @@ use Rattle.std.specs.Io.KnownBytes.{Appends}
 use Rattle.std.proofs.KnownBytes.{Appends-nil, Appends-trans}
 use Rattle.std.proofs.lemmas.Result.{MatchResult-from_err}
 use Rattle.std.specs.Result.{IsErr}
-use Rattle.lines.specs.declared.line.Line.{Line}
+use Rattle.lines.specs.declared.line.PrintedLine.{PrintedLine}
 use Rattle.lines.specs.Printing.{printed, text_of}
 use Rattle.lines.specs.Streams.{GrowsByFront, Writes}
 
@@ -42,21 +42,21 @@ moves_front all done rest n e =
 pub failed : {E : Type 0} (a b : Option (List ℕ)) (text : List ℕ) (r : Result (Unit {0}) E) → IsErr r → GrowsByFront a b text → Writes a b r text
 failed a b text r is front = MatchResult-from_err r _ _ is (λ e. front)
 
-pub one_line : (l : Line) → printed l ≡ text_of (l ∷ [])
+pub one_line : (l : PrintedLine) → printed l ≡ text_of (l ∷ [])
 unfolding text_of
 one_line l = sym (append-nil (printed l))
 
 -- lines after others
-pub text_both : (ks ls : List Line) → text_of (ks ++ ls) ≡ text_of ks ++ text_of ls
+pub text_both : (ks ls : List PrintedLine) → text_of (ks ++ ls) ≡ text_of ks ++ text_of ls
 unfolding text_of
 text_both [] ls = refl
 text_both (k ∷ ks) ls = ap (λ t. printed k ++ t) (text_both ks ls) ∙ sym (append_assoc (printed k) _ _)
 
-pub lines_after : {E : Type 0} (a b c : Option (List ℕ)) (ks ls : List Line) (r : Result (Unit {0}) E) → Appends a b (text_of ks) → Writes b c r (text_of ls) → Writes a c r (text_of (ks ++ ls))
+pub lines_after : {E : Type 0} (a b c : Option (List ℕ)) (ks ls : List PrintedLine) (r : Result (Unit {0}) E) → Appends a b (text_of ks) → Writes b c r (text_of ls) → Writes a c r (text_of (ks ++ ls))
 lines_after a b c ks ls r first then = subst (Writes a c r) (sym (text_both ks ls)) (writes_after a b c _ _ r first then)
 
 -- the first of them not whole
-pub first_failed : {E : Type 0} (a b : Option (List ℕ)) (ks ls : List Line) (r : Result (Unit {0}) E) → IsErr r → GrowsByFront a b (text_of ks) → Writes a b r (text_of (ks ++ ls))
+pub first_failed : {E : Type 0} (a b : Option (List ℕ)) (ks ls : List PrintedLine) (r : Result (Unit {0}) E) → IsErr r → GrowsByFront a b (text_of ks) → Writes a b r (text_of (ks ++ ls))
 first_failed a b ks ls r is front = failed a b _ r is (subst (GrowsByFront a b) (sym (text_both ks ls)) (front_of_first a b _ _ front))
 
 -- nothing was written where reading failed

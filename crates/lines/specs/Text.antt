@@ -5,11 +5,11 @@ use Rattle.std.specs.Fmt.{digit_glyph}
 use Rattle.path.specs.declared.command.Command.{Command}
 use Rattle.path.specs.Refusals.{number_of}
 use Rattle.path.specs.Styles.{join_number, cap_number}
-use Rattle.codec.specs.declared.item.Item.{Item}
-use Rattle.codec.specs.declared.item.Item.TheVariants as item
-use Rattle.codec.specs.Spelling.{letter, letter_of, coordinates}
-use Rattle.lines.specs.declared.line.Line.{Line}
-use Rattle.lines.specs.declared.line.Line.TheVariants as line
+use Rattle.job.specs.declared.item.Item.{Item}
+use Rattle.job.specs.declared.item.Item.TheVariants as item
+use Rattle.job.specs.Spelling.{letter, letter_of, coordinates}
+use Rattle.lines.specs.declared.line.PrintedLine.{PrintedLine}
+use Rattle.lines.specs.declared.line.PrintedLine.TheVariants as line
 
 -- the last hexadecimal digit
 abbrev pub digit : ℕ → ℕ
@@ -45,7 +45,7 @@ fields (item.Path c) = map bits (coordinates c)
 abbrev pub item_text : Item → List ℕ
 item_text i = letter i ∷ spaced (fields i)
 
-abbrev pub line_text : Line → List ℕ
+abbrev pub line_text : PrintedLine → List ℕ
 line_text (line.Item i) = item_text i
 line_text (line.Held commands dashes) = codes "=" ++ spaced (decimal commands ∷ decimal dashes ∷ [])
 line_text (line.Drawn sent steps) = codes "=" ++ spaced (decimal sent ∷ decimal steps ∷ [])

@@ -1,7 +1,7 @@
 ghost use Rattle.std.specs.Prelude.{◌∷◌, ◌++◌, Some};
 ghost use Rattle.lines.specs.Text.{bits};
 
-use codec::float::bits_of;
+use job::float::bits_of;
 use path::geometry::Point;
 use std::fmt;
 

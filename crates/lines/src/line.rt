@@ -3,14 +3,14 @@ ghost use Rattle.std.specs.Fmt.{WritesOnOk};
 ghost use Rattle.lines.specs.Text.{command_text, item_text, line_text};
 
 use crate::bits::{Bits, PointBits};
-use codec::item::Item;
+use job::item::Item;
 use path::command::Command;
 use path::refusal::Refusal;
 use std::fmt;
 
 /// One printed line.
 #[derive(Clone, Copy, PartialEq)]
-pub enum Line {
+pub enum PrintedLine {
     /// An item of a job.
     Item(Item),
     /// How many commands and dashes a job holds.
@@ -21,15 +21,15 @@ pub enum Line {
     Refused(Refusal),
 }
 
-impl fmt::Display for Line {
+impl fmt::Display for PrintedLine {
     ghost output = { λ l. Some (line_text l) };
 
     fn fmt<W: fmt::Write>(&self, f: &mut fmt::Formatter<W>) -> fmt::Result {
         match *self {
-            Line::Item(item) => write_item(item, f),
-            Line::Held { commands, dashes } => write!(f, "= {commands} {dashes}"),
-            Line::Drawn { sent, steps } => write!(f, "= {sent} {steps}"),
-            Line::Refused(r) => write!(f, "! {} {} {}", u8::from(r.reason), r.place, r.sent),
+            PrintedLine::Item(item) => write_item(item, f),
+            PrintedLine::Held { commands, dashes } => write!(f, "= {commands} {dashes}"),
+            PrintedLine::Drawn { sent, steps } => write!(f, "= {sent} {steps}"),
+            PrintedLine::Refused(r) => write!(f, "! {} {} {}", u8::from(r.reason), r.place, r.sent),
         }
     }
 }

@@ -3,10 +3,10 @@ ghost use Rattle.lines.specs.Listing.{style_lines, total, accepted, job_lines, l
 ghost use Rattle.lines.specs.Printing.{text_of};
 ghost use Rattle.lines.specs.Streams.{Writes};
 
-use crate::line::Line;
+use crate::line::PrintedLine;
 use crate::printing::{print, print_all};
 use crate::program::{Program, run};
-use codec::item::Item;
+use job::item::Item;
 use job::whole::Job;
 use path::style::Stroke;
 use std::io;
@@ -45,24 +45,24 @@ fn print_job<W: Write>(writer: &mut W, job: &Job) -> io::Result<()>
     print(writer, total(job))
 }
 
-fn total(job: &Job) -> Line
+fn total(job: &Job) -> PrintedLine
     ensures { result ≡ total (accepted job.now) }
 {
-    Line::Held {
+    PrintedLine::Held {
         commands: job.commands.len(),
         dashes: job.dashes.len(),
     }
 }
 
-fn style_lines(s: Stroke) -> [Line; 6]
+fn style_lines(s: Stroke) -> [PrintedLine; 6]
     ensures { result ≡ style_lines s }
 {
     [
-        Line::Item(Item::Width(s.width)),
-        Line::Item(Item::Join(s.join)),
-        Line::Item(Item::MiterLimit(s.miter_limit)),
-        Line::Item(Item::StartCap(s.start_cap)),
-        Line::Item(Item::EndCap(s.end_cap)),
-        Line::Item(Item::Offset(s.offset)),
+        PrintedLine::Item(Item::Width(s.width)),
+        PrintedLine::Item(Item::Join(s.join)),
+        PrintedLine::Item(Item::MiterLimit(s.miter_limit)),
+        PrintedLine::Item(Item::StartCap(s.start_cap)),
+        PrintedLine::Item(Item::EndCap(s.end_cap)),
+        PrintedLine::Item(Item::Offset(s.offset)),
     ]
 }

@@ -3,10 +3,10 @@ ghost use Rattle.lines.specs.Listing.{command_line, dash_line};
 ghost use Rattle.lines.specs.Printing.{text_of};
 ghost use Rattle.lines.specs.Streams.{Writes};
 
-use crate::line::Line;
+use crate::line::PrintedLine;
 use crate::writing::write_text;
 use arrayvec::ArrayString;
-use codec::item::Item;
+use job::item::Item;
 use path::command::Command;
 use std::fmt::{Display, Write as _};
 use std::io::Write;
@@ -14,18 +14,18 @@ use std::{fmt, io};
 
 /// What has a line of its own.
 pub trait AsLine: Copy {
-    ghost use Rattle.lines.specs.declared.line.Line.{Line};
+    ghost use Rattle.lines.specs.declared.line.PrintedLine.{PrintedLine};
 
-    ghost line_of: { Self → Line };
+    ghost line_of: { Self → PrintedLine };
 
-    fn line(self) -> Line
+    fn line(self) -> PrintedLine
         ensures { result ≡ line_of self };
 }
 
-impl AsLine for Line {
+impl AsLine for PrintedLine {
     ghost line_of = { λ l. l };
 
-    fn line(self) -> Line {
+    fn line(self) -> PrintedLine {
         self
     }
 }
@@ -33,8 +33,8 @@ impl AsLine for Line {
 impl AsLine for Command {
     ghost line_of = { command_line };
 
-    fn line(self) -> Line {
-        Line::Item(Item::Path(self))
+    fn line(self) -> PrintedLine {
+        PrintedLine::Item(Item::Path(self))
     }
 }
 
@@ -42,8 +42,8 @@ impl AsLine for Command {
 impl AsLine for f32 {
     ghost line_of = { dash_line };
 
-    fn line(self) -> Line {
-        Line::Item(Item::Dash(self))
+    fn line(self) -> PrintedLine {
+        PrintedLine::Item(Item::Dash(self))
     }
 }
 
@@ -62,7 +62,7 @@ pub fn println<W: Write, D: Display + Drop>(writer: &mut W, value: D) -> io::Res
 
 /// Prints a line. Where it fails a front of it was written.
 #[tactic(auto, using(crate::proofs::Growing::one_line))]
-pub fn print<W: Write>(writer: &mut W, line: Line) -> io::Result<()>
+pub fn print<W: Write>(writer: &mut W, line: PrintedLine) -> io::Result<()>
     ensures { Writes (W.contents writer.old) (W.contents writer.new) result (text_of (line ∷ [])) }
 {
     println(writer, line)

@@ -4,7 +4,7 @@ ghost use Rattle.lines.specs.Listing.{accepted, reported};
 ghost use Rattle.lines.specs.Printing.{text_of};
 ghost use Rattle.lines.specs.Streams.{Writes};
 
-use crate::line::Line;
+use crate::line::PrintedLine;
 use crate::printing::print;
 use crate::reading::read_front;
 use job::reader::JobReader;
@@ -23,9 +23,9 @@ const MOST_DASHES: usize = 32;
 pub trait Program: Copy {
     ghost use Rattle.std.specs.Prelude.{List};
     ghost use Rattle.job.specs.Sayings.{Said};
-    ghost use Rattle.lines.specs.declared.line.Line.{Line};
+    ghost use Rattle.lines.specs.declared.line.PrintedLine.{PrintedLine};
 
-    ghost lines: { Self → Said → List Line };
+    ghost lines: { Self → Said → List PrintedLine };
 
     fn report<W: Write>(self, writer: &mut W, job: &Job) -> io::Result<()>
         ensures { Writes (W.contents writer.old) (W.contents writer.new) result
@@ -60,6 +60,6 @@ fn report<W: Write, P: Program>(writer: &mut W, program: P, bytes: &[u8]) -> io:
     let mut job = Job::new(&mut commands, &mut dashes);
     match JobReader::new(bytes).read(&mut job) {
         Ok(()) => program.report(writer, &job),
-        Err(refusal) => print(writer, Line::Refused(refusal)),
+        Err(refusal) => print(writer, PrintedLine::Refused(refusal)),
     }
 }

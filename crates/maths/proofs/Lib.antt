@@ -4,3 +4,4 @@ mod Narrowing
 mod Remainders
 pub mod Rows
 mod Specials
+mod Chunks

@@ -8,3 +8,4 @@ pub mod Tables
 pub mod Questions
 pub mod Angles
 pub mod Narrow
+pub mod ByteRows

@@ -2,6 +2,8 @@
 //! one works them out, the other reads them from a table.
 #![tactic(auto)]
 
+pub mod byte_rows;
+pub mod byte_table;
 pub mod host;
 pub mod series;
 pub mod table;

@@ -1,4 +1,4 @@
-use distances::byte_table::ByteTable;
+use maths::byte_table::ByteTable;
 use maths::host::{Function, MathsHost};
 use std::num::{f32_from_bits_with_nan, f32_to_bits_with_nan};
 

@@ -1,3 +1,4 @@
 pub mod Halves
 pub mod Widths
 mod Causes
+mod Leading

@@ -3,8 +3,8 @@ use Rattle.std.specs.Prelude.{◌≡◌, ◌+◌, ◌-◌, ◌<◌, T, [], ◌�
 use Rattle.std.proofs.Common.{ap, ◌∙◌, leb→le, length-set}
 use Rattle.std.proofs.Math.Nat.{sub-add-eq, sub-pos_iff_lt}
 use Rattle.std.proofs.lemmas.List.{take_more_set}
-use Rattle.lent.specs.Lists.{left, pushed}
-use Rattle.lent.specs.declared.Lent.{Lent}
+use Rattle.lists.specs.Lent.{left, pushed}
+use Rattle.lists.specs.declared.lent.Lent.{Lent}
 use Rattle.path.specs.declared.command.Command.{Command}
 use Rattle.sinks.specs.Meaning.{takes, joined}
 use Rattle.sinks.specs.Records.{recorded}

@@ -1,6 +1,6 @@
 -- What a record list means.
-use Rattle.lent.specs.Lists.{items, left}
-use Rattle.lent.specs.declared.Lent.{Lent}
+use Rattle.lists.specs.Lent.{items, left}
+use Rattle.lists.specs.declared.lent.Lent.{Lent}
 use Rattle.path.specs.declared.command.Command.{Command}
 use Rattle.sinks.specs.Meaning.{Meaning}
 

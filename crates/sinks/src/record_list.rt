@@ -1,10 +1,10 @@
 ghost use Rattle.std.specs.Prelude.{◌≡◌, refl};
-ghost use Rattle.lent.specs.Lists.{pushed};
+ghost use Rattle.lists.specs.Lent.{pushed};
 ghost use Rattle.sinks.specs.RecordLaws.{recorded_grows};
 ghost use Rattle.sinks.specs.Records.{recorded};
 
 use crate::sink::{ReadableSink, Refused, Sink};
-use lent::Lent;
+use lists::lent::Lent;
 use path::command::Command;
 
 /// A sink that keeps commands as they come, in places that the caller lends, until they are full. It

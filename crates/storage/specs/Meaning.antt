@@ -1,7 +1,7 @@
 -- What a storage answers, and what it is afterwards.
 use Rattle.std.specs.Prelude.{ℕ, Bool, if◌then◌else◌, T, List, [], ◌∷◌, ◌++◌, length, Ok, Err, Result, nat_lt}
 use Rattle.segments.specs.declared.segment.Segment.{Segment}
-use Rattle.lent.specs.declared.Full.{Full}
+use Rattle.lists.specs.declared.lent.Full.{Full}
 
 -- whether fewer segments are held than can be
 abbrev pub room : List Segment → ℕ → Bool

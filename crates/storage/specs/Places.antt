@@ -1,7 +1,7 @@
 -- The places of the two storages.
 use Rattle.std.specs.Prelude.{ℕ, false, ◌++◌, length}
-use Rattle.fixed.specs.Places.{Places, fresh as no_elements}
-use Rattle.lent.specs.declared.Lent.{Lent}
+use Rattle.lists.specs.Fixed.{Places, fresh as no_elements}
+use Rattle.lists.specs.declared.lent.Lent.{Lent}
 use Rattle.segments.specs.declared.segment.Segment.TheVariants.{End}
 use Rattle.storage.specs.declared.storage128.Storage128.{Storage128}
 

@@ -4,7 +4,7 @@ use Rattle.std.proofs.Common.{sym, ap, ◌∙◌, ltb→lt, subst, append_assoc,
 use Rattle.std.proofs.Math.Nat.{lt_irrefl, lt_of_not-le, zero-lt-suc}
 use Rattle.std.proofs.lemmas.Bool.{cond-true, lt-ltb}
 use Rattle.std.proofs.lemmas.List.{take_all, take_more_set}
-use Rattle.fixed.specs.Places.{Places, pushed}
+use Rattle.lists.specs.Fixed.{Places, pushed}
 use Rattle.storage.specs.Places.{place_number}
 
 -- fewer elements in front than there are places: the count is not past the last place

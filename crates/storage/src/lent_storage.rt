@@ -1,11 +1,11 @@
 ghost use Rattle.std.specs.Prelude.{◌≡◌};
-ghost use Rattle.lent.specs.Lists.{items, cleared, pushed};
+ghost use Rattle.lists.specs.Lent.{items, cleared, pushed};
 ghost use Rattle.storage.specs.Places.{place_count};
 ghost use Rattle.storage.specs.PlacesLemmas.{front_grows};
 ghost use Rattle.std.proofs.Common.{refl, length-set};
 
 use crate::storage::Storage;
-use lent::{Full, Lent};
+use lists::lent::{Full, Lent};
 use segments::segment::Segment;
 
 /// A storage in places that the caller lends, which is the lent list itself. The places after the

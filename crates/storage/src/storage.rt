@@ -3,7 +3,7 @@ ghost use Rattle.std.specs.List.{slice_get};
 ghost use Rattle.segments.specs.declared.segment.Segment.{Segment};
 ghost use Rattle.storage.specs.Meaning.{StorageActs, HasRoom, push_answer, after};
 
-use lent::Full;
+use lists::lent::Full;
 use segments::segment::Segment;
 
 /// A storage holds segments. It means those that it holds, in order, and how many it can hold.

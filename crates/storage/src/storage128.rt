@@ -1,11 +1,11 @@
 ghost use Rattle.std.specs.Prelude.{◌≡◌, refl};
-ghost use Rattle.fixed.specs.Places.{pushed, cleared};
+ghost use Rattle.lists.specs.Fixed.{pushed, cleared};
 ghost use Rattle.storage.specs.Places.{fresh, place_number};
 ghost use Rattle.storage.specs.PlacesLemmas.{own_grows, own_pushed};
 
 use crate::storage::Storage;
-use fixed::FixedList;
-use lent::Full;
+use lists::fixed::FixedList;
+use lists::lent::Full;
 use segments::segment::Segment;
 
 /// A storage that has 128 places itself. The places after the segments keep what they held.

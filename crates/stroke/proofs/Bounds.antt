@@ -27,8 +27,8 @@ use Rattle.arcs.specs.declared.arc_to.ArcTo.{ArcTo}
 use Rattle.arcs.specs.Centres.{half_chord}
 use Rattle.arcs.specs.Sweeps.{quarter, first_axis, cosine_between, turn_of, curves_needed, count_of, bulge_questions, sweep_of}
 use Rattle.arcs.specs.Curves.{ellipse, all_curves, all_questions, no_chord, turned_of, centred_of, round_curves, round_all_questions, arc_curves, arc_questions}
-use Rattle.joins.specs.Joins.{shaped, shaped_questions, split_corner, half_circle}
-use Rattle.joins.specs.Caps.{cap_commands, cap_questions}
+use Rattle.pen.specs.Joins.{shaped, shaped_questions, split_corner, half_circle}
+use Rattle.pen.specs.Caps.{cap_commands, cap_questions}
 use Rattle.stroke.specs.Events.{Event, asks, sends, Plan, commands}
 use Rattle.stroke.specs.Outlines.{turn_between, emitted, join_events, split_events, cap_events, same_mark, between, one_onward, onward, side, other_side, sides, other_sides, last_side, end_cap_events, start_cap_events, cross_events, capped_ring, closed_ring, around, capped_outline, closed_outline, ring_outline, across, spot, has_cap, first_point, is_lone_dot, lone_dot, outline}
 use Rattle.stroke.specs.Ranges.{ranged, sliced, pieces, dot_slice, dot_around, dash_dot, dash_of}

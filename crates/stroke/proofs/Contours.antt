@@ -24,8 +24,8 @@ use Rattle.pen.specs.Corners.{corner_of}
 use Rattle.arcs.specs.declared.arc_to.ArcTo.{ArcTo}
 use Rattle.arcs.specs.Centres.{half_chord}
 use Rattle.arcs.specs.Curves.{all_curves, no_chord, turned_of, centred_of, round_curves, arc_curves}
-use Rattle.joins.specs.Joins.{shaped, shaped_questions, split_corner, half_circle}
-use Rattle.joins.specs.Caps.{cap_commands, cap_questions}
+use Rattle.pen.specs.Joins.{shaped, shaped_questions, split_corner, half_circle}
+use Rattle.pen.specs.Caps.{cap_commands, cap_questions}
 use Rattle.segments.specs.Lists.{Each, each_append}
 use Rattle.stroke.specs.Events.{Event, asks, sends, Plan}
 use Rattle.stroke.specs.Outlines.{turn_between, emitted, join_events, split_events, cap_events, same_mark, between, one_onward, onward, last_side, cross_events, finish_events, capped_ring, closed_ring, across}

@@ -9,7 +9,7 @@ use Rattle.sinks.specs.Meaning.{SinkActs}
 use Rattle.sinks.specs.declared.sink.Refused.{Refused}
 use Rattle.storage.specs.Meaning.{StorageActs, HasRoom, room}
 use Rattle.storage.specs.Meaning as storing
-use Rattle.lent.specs.declared.Full.{Full}
+use Rattle.lists.specs.declared.lent.Full.{Full}
 use Rattle.pen.specs.declared.nib.Nib.{Nib}
 use Rattle.dashes.specs.declared.dasher.DashOp.{DashOp}
 use Rattle.dashes.specs.declared.dasher.DashOp.TheVariants.{Done, Continue, Emit, Stroke}

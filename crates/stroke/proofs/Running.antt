@@ -14,7 +14,7 @@ use Rattle.segments.specs.declared.segment.Segment.{Segment}
 use Rattle.segments.specs.declared.segment.Segment.TheVariants.{Line, Curve, End}
 use Rattle.sinks.specs.Meaning.{SinkActs}
 use Rattle.storage.specs.Meaning.{StorageActs, HasRoom, room}
-use Rattle.cursor.specs.declared.cursor.Segments.{Segments}
+use Rattle.cursor.specs.declared.walk.Segments.{Segments}
 use Rattle.cursor.specs.Cursors.{seen, rest, fresh}
 use Rattle.cursor.specs.Drawings.{asks, gives, still, drawn_whole, pieces_given, pieces_drawn}
 use Rattle.cursor.specs.Drawings as drawings

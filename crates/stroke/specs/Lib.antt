@@ -9,3 +9,4 @@ pub mod Outlines
 pub mod Ranges
 pub mod Runs
 pub mod Strokers
+pub mod Limits

@@ -9,7 +9,7 @@ use Rattle.path.specs.declared.style.Stroke.{Stroke}
 use Rattle.sinks.specs.Meaning.{SinkActs}
 use Rattle.sinks.specs.declared.sink.Refused.{Refused}
 use Rattle.storage.specs.Meaning.{StorageActs, room}
-use Rattle.limits.specs.Limits.{admitted}
+use Rattle.stroke.specs.Limits.{admitted}
 use Rattle.stroke.specs.Counts.{counted}
 use Rattle.stroke.specs.Events.{Drawing, one}
 use Rattle.stroke.specs.Calls.{Action, clears, stores, ends, steps, draws, stroke_actions}

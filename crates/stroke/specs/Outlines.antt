@@ -15,8 +15,8 @@ use Rattle.pen.specs.declared.nib.Nib.{Nib}
 use Rattle.pen.specs.declared.offset.OffsetSegment.{OffsetSegment}
 use Rattle.pen.specs.Offsets.{offset_of}
 use Rattle.pen.specs.declared.corner.Turn.{Turn}
-use Rattle.joins.specs.Joins.{join_commands, join_questions, shaped, shaped_questions, split_corner}
-use Rattle.joins.specs.Caps.{cap_commands, cap_questions}
+use Rattle.pen.specs.Joins.{join_commands, join_questions, shaped, shaped_questions, split_corner}
+use Rattle.pen.specs.Caps.{cap_commands, cap_questions}
 use Rattle.stroke.specs.Events.{Plan, commands, asked_then_sent, ◌⨾◌, by_nib}
 
 -- ---- joins, caps and sides

@@ -2,7 +2,7 @@
 use Rattle.std.specs.Prelude.{◌≡◌, ℕ, ◌^◌, ◌<◌, Bool, true, false, List, [], ◌∷◌, ◌++◌, map, Some, None, Option, Ok, Err, Result}
 use Rattle.maths.specs.Functions.{Functions, HostActs}
 use Rattle.path.specs.declared.command.Command.{Command}
-use Rattle.lent.specs.declared.Full.{Full}
+use Rattle.lists.specs.declared.lent.Full.{Full}
 use Rattle.path.specs.declared.refusal.Reason.{Reason}
 use Rattle.path.specs.declared.refusal.Reason.TheVariants.{StorageFull, StepsSpent}
 use Rattle.segments.specs.declared.segment.Segment.{Segment}

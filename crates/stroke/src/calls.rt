@@ -8,10 +8,10 @@ ghost use Rattle.stroke.specs.Outcomes.{answer_of, at_start, outcome, perform, r
 ghost use Rattle.stroke.specs.Strokers.{stop_of};
 
 use crate::counted::Counted;
+use crate::limits::admit;
 use crate::stroker::Stroker;
 use crate::tally::Tally;
 use dashes::pattern::Pattern;
-use limits::admit;
 use maths::host::MathsHost;
 use path::command::Command;
 use path::refusal::{Reason, Refusal};

@@ -4,6 +4,7 @@
 pub mod calls;
 mod caps;
 mod counted;
+pub mod limits;
 mod outline;
 mod outliner;
 mod ring;

@@ -3,12 +3,12 @@ ghost use Rattle.stroke.specs.Events.{commands, draw};
 ghost use Rattle.stroke.specs.Outlines.{turn_between, emitted, join_events, split_events, cap_events};
 ghost use Rattle.stroke.specs.Outliners.{stage};
 
-use joins::caps::cap_commands;
-use joins::joins::{join, split_join};
 use maths::host::MathsHost;
 use path::command::Command;
 use path::style::Cap;
+use pen::caps::cap_commands;
 use pen::corner::Turn;
+use pen::joins::{join, split_join};
 use pen::nib::Nib;
 use pen::offset::OffsetSegment;
 use segments::segment::Segment;

@@ -9,11 +9,11 @@ ghost use Rattle.stroke.specs.Strokers.{Drawable, Walked, acting, dash, dash_ste
 
 use crate::outliner::Outliner;
 use crate::row::Run;
-use cursor::cursor::Segments;
+use cursor::walk::Segments;
 use dashes::dasher::{DashOp, Dasher, Range};
 use dashes::pattern::Pattern;
 use dashes::steps::{Spent, Steps};
-use lent::Full;
+use lists::lent::Full;
 use maths::host::MathsHost;
 use path::command::Command;
 use path::refusal::Reason;

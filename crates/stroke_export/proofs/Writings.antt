@@ -9,10 +9,10 @@ use Rattle.path.specs.declared.style.Stroke.{Stroke}
 use Rattle.stroke.specs.declared.tally.Tally.{Tally}
 use Rattle.stroke.specs.Outcomes.{Outcome, Request, stroked}
 use Rattle.stroke.proofs.Seen.{seen_stroked}
-use Rattle.tape.specs.ByteSinks.{over, spelling, byte_acts}
-use Rattle.tape.specs.Tapes.{price}
-use Rattle.tape.specs.declared.byte_sink.ByteSink.{ByteSink}
-use Rattle.tape.proofs.Overs.{over_grows}
+use Rattle.job.specs.ByteSinks.{over, spelling, byte_acts}
+use Rattle.job.specs.Tapes.{price}
+use Rattle.job.specs.declared.byte_sink.ByteSink.{ByteSink}
+use Rattle.job.proofs.Overs.{over_grows}
 use Rattle.std.specs.Borrow.{Bor}
 use Rattle.job.specs.declared.whole.Job.{Job}
 use Rattle.job.specs.Jobs.{empty_job}

@@ -8,10 +8,10 @@ use Rattle.sinks.specs.Meaning.{Meaning, meaning_acts}
 use Rattle.job.specs.Sayings.{Said, said_by}
 use Rattle.stroke.specs.declared.tally.Tally.{Tally}
 use Rattle.stroke.specs.Outcomes.{Outcome, request, stroked}
-use Rattle.tape.specs.ByteSinks.{overwritten, over}
-use Rattle.tape.specs.Decoding.{records}
-use Rattle.tape.specs.Tapes.{price}
-use Rattle.tape.specs.declared.byte_sink.ByteSink.{ByteSink}
+use Rattle.job.specs.ByteSinks.{overwritten, over}
+use Rattle.job.specs.Decoding.{records}
+use Rattle.job.specs.Tapes.{price}
+use Rattle.job.specs.declared.byte_sink.ByteSink.{ByteSink}
 use Rattle.stroke_export.specs.declared.answer.Answer.{Answer}
 use Rattle.stroke_export.specs.Answers.{told}
 use Rattle.storage.specs.Meaning.{held_acts, Held, empty_held}

@@ -2,11 +2,12 @@ ghost use Rattle.std.specs.Prelude.{◌≡◌, ◌≤◌, [], length};
 ghost use Rattle.job.specs.Readers.{start};
 ghost use Rattle.job.specs.Sayings.{said, AsMany};
 ghost use Rattle.job.specs.Whole.{whole};
-ghost use Rattle.tape.specs.ByteSinks.{over, spelling};
+ghost use Rattle.job.specs.ByteSinks.{over, spelling};
 ghost use Rattle.stroke_export.specs.Drawings.{untouched, said_drawn, job_drawn, told_of, bytes_of, Writes};
 
 use crate::answer::{Answer, told};
 use curves::line::Line;
+use job::byte_sink::ByteSink;
 use job::reader::JobReader;
 use job::whole::Job;
 use maths::host::MathsHost;
@@ -19,7 +20,6 @@ use storage::lent_storage::LentStorage;
 use storage::storage::Storage;
 use stroke::calls::stroke_with_storage;
 use stroke::tally::Tally;
-use tape::byte_sink::ByteSink;
 
 // What the places of a list hold at first: all of it zeros, which a single memset writes.
 const ORIGIN: Point = Point { x: 0.0, y: 0.0 };

@@ -6,7 +6,7 @@ ghost use Rattle.std.specs.Prelude.{◌≡◌, length};
 ghost use Rattle.maths.specs.Functions.{restricted};
 ghost use Rattle.maths.specs.Series.{series};
 ghost use Rattle.maths.specs.Tables.{tabled};
-ghost use Rattle.distances.specs.Rows.{rows_in};
+ghost use Rattle.maths.specs.ByteRows.{rows_in};
 ghost use Rattle.stroke_export.specs.Drawings.{job_drawn, told_of, bytes_of};
 
 mod answer;
@@ -14,7 +14,7 @@ mod drawing;
 
 use crate::answer::Answer;
 use crate::drawing::{drawn, drawn_long};
-use distances::byte_table::ByteTable;
+use maths::byte_table::ByteTable;
 use maths::series::SeriesHost;
 use storage::storage128::Storage128;
 

@@ -1,6 +1,6 @@
-use codec::float::bits_of;
 use curves::curve::Curve;
 use curves::line::{Line, SegmentTime};
+use job::float::bits_of;
 use path::geometry::Point;
 
 // The expected bits are the Rust's own answers, its files built unchanged.

@@ -4,6 +4,8 @@
 #[cfg(test)]
 mod bezier;
 #[cfg(test)]
+mod containers;
+#[cfg(test)]
 mod dash_walks;
 #[cfg(test)]
 mod ellipses;
@@ -11,8 +13,6 @@ mod ellipses;
 mod jobs;
 #[cfg(test)]
 mod listings;
-#[cfg(test)]
-mod lists;
 #[cfg(test)]
 mod lone_arcs;
 #[cfg(test)]

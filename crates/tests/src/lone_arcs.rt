@@ -1,6 +1,6 @@
-use arc::arc;
 use arcs::arc_to::{ArcSize, ArcSweep, ArcTo};
 use arcs::ellipse::arc_curves;
+use arcs::lone_arc::arc;
 use maths::series::SeriesHost;
 use path::command::Command;
 use path::geometry::Point;

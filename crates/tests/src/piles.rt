@@ -1,9 +1,9 @@
-use layers::bounding_box::BoundingBox;
-use layers::bounds::Bounds;
-use layers::shifted::Shifted;
 use path::command::Command;
 use path::geometry::{Point, Vector};
+use sinks::bounding_box::BoundingBox;
+use sinks::bounds::Bounds;
 use sinks::record_list::RecordList;
+use sinks::shifted::Shifted;
 use sinks::sink::{ReadableSink, Refused, Sink};
 
 const BY: Vector = Vector { x: 10.0, y: -1.0 };

@@ -1,7 +1,7 @@
-use codec::float::bits_of;
-use curvature::bend::max_curvature;
-use curvature::roots::Roots;
+use curves::bend::max_curvature;
 use curves::curve::Curve;
+use curves::roots::Roots;
+use job::float::bits_of;
 use maths::host::Function;
 use maths::series::SeriesHost;
 use maths::table::{Row, TableHost};

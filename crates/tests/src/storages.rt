@@ -1,5 +1,5 @@
 use curves::line::Line;
-use lent::Full;
+use lists::lent::Full;
 use path::geometry::Point;
 use segments::mark::SegmentId;
 use segments::segment::Segment;

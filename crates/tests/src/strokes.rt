@@ -1,20 +1,16 @@
 use crate::printed::slashed;
-use layers::bounds::Bounds;
-use layers::shifted::Shifted;
-use lent::front;
+use lists::lent::front;
 use maths::host::MathsHost;
 use maths::series::SeriesHost;
 use maths::table::TableHost;
-use outlining::drawn::print_drawn;
-use outlining::outline::outline;
-use outlining::replay::replay_setting;
-use outlining::setting::{Setting, Unfit};
 use path::command::Command;
 use path::geometry::{Point, Vector};
 use path::refusal::Refusal;
 use path::style::{Cap, Join, Stroke};
 use segments::segment::Segment;
+use sinks::bounds::Bounds;
 use sinks::record_list::RecordList;
+use sinks::shifted::Shifted;
 use sinks::sink::{ReadableSink, Sink};
 use std::alloc::{AllocError, Global};
 use std::io;
@@ -23,6 +19,10 @@ use storage::lent_storage::LentStorage;
 use storage::storage::Storage;
 use stroke::calls::{stroke_into, stroke_with_storage};
 use stroke::tally::Tally;
+use stroke_lines::drawn::print_drawn;
+use stroke_lines::outline::outline;
+use stroke_lines::replay::replay_setting;
+use stroke_lines::setting::{Setting, Unfit};
 
 // The outlines, counts and steps that are expected are the Rust's own, its files built unchanged; the
 // refusals are those of the rules.

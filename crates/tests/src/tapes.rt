@@ -1,17 +1,17 @@
-use codec::float::float_of;
+use job::byte_sink::ByteSink;
+use job::float::float_of;
 use job::reader::JobReader;
+use job::tape::Tape;
 use job::whole::Job;
-use layers::bounds::Bounds;
-use layers::shifted::Shifted;
 use maths::series::SeriesHost;
 use path::command::Command;
 use path::geometry::{Point, Vector};
 use path::style::{Cap, Join, Stroke};
+use sinks::bounds::Bounds;
 use sinks::record_list::RecordList;
+use sinks::shifted::Shifted;
 use sinks::sink::{ReadableSink, Refused, Sink};
 use stroke::calls::stroke_into;
-use tape::byte_sink::ByteSink;
-use tape::tape::Tape;
 
 const BY: Vector = Vector { x: 10.0, y: -1.0 };
 

@@ -1,4 +1,4 @@
-use codec::float::{bits_of, float_of};
+use job::float::{bits_of, float_of};
 use path::geometry::{Vector, normal};
 
 fn bits(v: Vector) -> (u32, u32) {

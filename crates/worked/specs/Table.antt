@@ -6,7 +6,7 @@ use Rattle.path.specs.declared.command.Command.{Command}
 use Rattle.path.specs.declared.command.Command.TheVariants.{Close}
 use Rattle.dashes.specs.declared.dasher.Range.{Range}
 use Rattle.curves.specs.Curves.{half}
-use Rattle.curvature.specs.Roots.{sorted, distinct}
+use Rattle.curves.specs.Roots.{sorted, distinct}
 use Rattle.worked.specs.declared.Worked.TheVariants.{Line, DashedLine, DashedSquare, SquareDot, ButtDot, Corner, GapFirst, DashFirst, EmptyGap, ShortGap, ShortAlone, OneAlone}
 use Rattle.worked.specs.Inputs.{whole, from, to}
 use Rattle.worked.specs.Outcomes.{done, spent, bar, Leaves, Strokes, Comes, Takes, range, Dashed, Plain}

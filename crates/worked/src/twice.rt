@@ -20,16 +20,12 @@ fn twice<S: Sink, K: MathsHost>(
     sink: &mut S,
     host: &mut K,
 ) -> (Result<Tally, Refusal>, Result<Tally, Refusal>)
-    ensures whole {
-        let q = request commands.now style dashes.now budget in
+    ensures whole { let q = request commands.now style dashes.now budget in
         let a = stroked S.acts held_acts K.acts q sink.old (empty_held 128) host.old in
         let b = stroked S.acts held_acts K.acts q a.sink (empty_held 128) a.host in
-        (result.0 ≡ a.answer) × (result.1 ≡ b.answer) × (sink.new ≡ b.sink) × (host.new ≡ b.host)
-    }
-    ensures alike {
-        (S.acts.meaning sink.old).list ≡ [] → is_ok result.0 ≡ true → is_ok result.1 ≡ true
-            → result.0 ≡ result.1
-    }
+        (result.0 ≡ a.answer) × (result.1 ≡ b.answer) × (sink.new ≡ b.sink) × (host.new ≡ b.host) }
+    ensures alike { (S.acts.meaning sink.old).list ≡ [] → is_ok result.0 ≡ true → is_ok result.1 ≡ true
+        → result.0 ≡ result.1 }
 {
     let first = stroke_into(commands, style, dashes, budget, sink, host);
     let second = stroke_into(commands, style, dashes, budget, sink, host);

@@ -1,11 +1,11 @@
 ghost use Rattle.std.specs.Prelude.{◌≡◌, length, MatchResult};
-ghost use Rattle.codec.specs.Reading.{first, Within};
+ghost use Rattle.job.specs.Reading.{first, Within};
 ghost use Rattle.job.specs.Readers.{left, refusal, next_answer, next_reader};
 ghost use Rattle.job.specs.Laws.{FindsSpelled, ReadsSpelled};
 
-use crate::letters::read_item;
+use crate::item::Item;
+use crate::operands::read_item;
 use crate::reader::JobReader;
-use codec::item::Item;
 use path::refusal::{Reason, Refusal};
 
 impl JobReader<'_> {

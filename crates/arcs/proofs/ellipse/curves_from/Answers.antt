@@ -3,7 +3,7 @@ use Rattle.std.proofs.lemmas.Bool.{cond_below}
 use Rattle.numbers.specs.Arithmetic.{◌⊕◌}
 use Rattle.maths.specs.Functions.{Functions}
 use Rattle.maths.proofs.Asking.{asked_same}
-use Rattle.fixed.specs.Places.{grown}
+use Rattle.lists.specs.Fixed.{grown}
 use Rattle.arcs.specs.Curves.{curve_at, curve_questions}
 use Rattle.arcs.proofs.Round.{curves_first, questions_first, curves_more, questions_more}
 use Rattle.arcs.proofs.ellipse.curves_from.Goals as goal

@@ -1,5 +1,5 @@
 use Rattle.std.proofs.Common.{map}
-use Rattle.lent.specs.Lists.{items}
+use Rattle.lists.specs.Lent.{items}
 use Rattle.lines.specs.Listing.{style_lines, dash_line, command_line}
 use Rattle.lines.proofs.Growing.{first_failed, lines_after}
 use Rattle.lines.proofs.listing.print_job.Goals as goal

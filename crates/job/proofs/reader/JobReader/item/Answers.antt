@@ -1,5 +1,5 @@
 use Rattle.std.proofs.Common.{refl}
-use Rattle.codec.proofs.Firsts.{within_at}
+use Rattle.job.proofs.Firsts.{within_at}
 use Rattle.job.proofs.Spelled.{finds_spelled}
 use Rattle.job.proofs.reader.JobReader.item.Goals as goal
 

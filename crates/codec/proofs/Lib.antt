@@ -1,4 +1,0 @@
-pub mod Firsts
-pub mod Overwrites
-pub mod Round
-mod Bits

@@ -1,5 +1,0 @@
-use Rattle.cursor.proofs.Whole.{lawful}
-use Rattle.cursor.proofs.cursor.Segments.new.Goals as goal
-
-pub returns-clause-lawful : goal.returns-clause-lawful
-returns-clause-lawful c F cs = lawful F c.args.split cs

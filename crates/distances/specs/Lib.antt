@@ -1,3 +1,0 @@
-pub mod Steps
-pub mod Rows
-pub mod Figures

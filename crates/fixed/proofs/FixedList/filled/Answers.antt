@@ -1,6 +1,0 @@
-use Rattle.std.proofs.Common.{◌∙◌}
-use Rattle.fixed.proofs.Filling.{fills}
-use Rattle.fixed.proofs.FixedList.filled.Goals as goal
-
-pub returns : goal.returns
-returns g c = fills g.row.N c.min-count.result c.args.blank c.args.items.now c.copy_from_slice.new.self c.min-count.ensures (c.copy_from_slice.ensures.after ∙ c.front.ensures)

@@ -1,2 +1,0 @@
-pub mod Caps
-pub mod Joins

@@ -1,4 +1,0 @@
-pub mod Boxes
-pub mod ShiftLaws
-pub mod Shifts
-pub mod Corners

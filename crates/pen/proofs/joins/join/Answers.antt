@@ -1,0 +1,10 @@
+use Rattle.std.proofs.Common.{subst}
+use Rattle.pen.specs.declared.corner.Corner.{Corner}
+use Rattle.pen.specs.Joins.{LeadsTo}
+use Rattle.pen.proofs.Leading.{joined_leads}
+use Rattle.pen.proofs.joins.join.Goals as goal
+
+pub returns-clause-leads : goal.returns-clause-leads
+returns-clause-leads g c =
+    let F = g.K.MathsHost.acts.functions c.args.host.now in
+    subst (λ (corner : Corner). LeadsTo c.args.turn.to corner c.shape.result.items) c.between.ensures.value (joined_leads F c.between.result c.args.nib c.args.turn c.shape.ensures.answer)

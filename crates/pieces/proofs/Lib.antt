@@ -1,4 +1,0 @@
-pub mod Few
-mod Halving
-mod Slicing
-mod Cutting

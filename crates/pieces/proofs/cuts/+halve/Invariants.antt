@@ -1,4 +1,0 @@
-use Rattle.pieces.proofs.cuts.+halve.Given as goal
-
-abbrev pub decreases-halve : goal.decreases-halve
-decreases-halve l = l.times

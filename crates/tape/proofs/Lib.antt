@@ -1,6 +1,0 @@
-mod Backs
-mod Decodings
-mod Nexts
-pub mod Overs
-mod Taking
-mod Walks
