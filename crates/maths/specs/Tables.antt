@@ -4,6 +4,9 @@ use Rattle.std.specs.Float.{nan, binary32}
 use Rattle.maths.specs.declared.host.Function.{Function}
 use Rattle.maths.specs.declared.host.Function.TheVariants.{Sine, Cosine, ArcCosine, Tangent, Power}
 use Rattle.maths.specs.declared.table.Row.{Row}
+use Rattle.maths.specs.declared.table.Rows.{Rows}
+use Rattle.maths.specs.declared.table.Rows.TheVariants.{Listed, Spelled}
+use Rattle.maths.specs.ByteRows.{rows_in}
 use Rattle.maths.specs.Functions.{Functions, gathered, restricted, numbered, in_range}
 
 -- A row is of the function and argument asked: bits that stand for the same number, 0 and -0 apart, every NaN pattern for the one NaN.
@@ -33,6 +36,11 @@ looked_up (r ∷ rs) f x = if matches r f x then answer_of r f else looked_up rs
 
 abbrev pub by_rows : List Row → Functions
 by_rows rs = gathered (looked_up rs)
+
+-- the rows of a table, wherever they lie
+abbrev pub rows_of : Rows → List Row
+rows_of (Listed rows) = rows.now
+rows_of (Spelled bytes) = rows_in bytes.now
 
 -- asked at f32 alone
 abbrev pub tabled : List Row → Functions

@@ -3,7 +3,6 @@
 #![tactic(auto)]
 
 pub mod byte_rows;
-pub mod byte_table;
 pub mod host;
 pub mod series;
 pub mod table;

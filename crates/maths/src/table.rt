@@ -1,11 +1,14 @@
-ghost use Rattle.std.specs.Prelude.{◌≡◌, refl};
+ghost use Rattle.std.specs.Prelude.{◌≡◌, map, refl};
 ghost use Rattle.std.specs.List.{find};
 ghost use Rattle.maths.specs.declared.host.Function.TheVariants.{ArcCosine};
 ghost use Rattle.maths.specs.Functions.{apply};
-ghost use Rattle.maths.specs.Tables.{matches, lawful, answer_of, answered, by_rows, tabled};
+ghost use Rattle.maths.specs.ByteRows.{row_at, rows_in};
+ghost use Rattle.maths.specs.declared.table.Rows.TheVariants.{Listed, Spelled};
+ghost use Rattle.maths.specs.Tables.{matches, lawful, answer_of, answered, rows_of, by_rows, tabled};
 ghost use Rattle.maths.specs.Angles.{looked_up_angle, restricted_angle};
 ghost use Rattle.maths.specs.Narrow.{again};
 
+use crate::byte_rows::row;
 use crate::host::{Function, MathsHost, in_range, not_a_number};
 use std::num::{f32_from_bits_with_nan, f32_to_bits_with_nan};
 
@@ -35,30 +38,48 @@ impl Row {
     }
 }
 
+// A slice that is searched: the library has no heap for a map.
+#[derive(Clone, Copy)]
+enum Rows<'a> {
+    Listed(&'a [Row]),
+    // Nine bytes each; a last piece of less than nine is left out.
+    Spelled(&'a [u8]),
+}
+
 /// A host that answers by the first row that matches. It answers NaN where none does, and where
 /// that row has an arc cosine out of its range.
 #[derive(Clone, Copy)]
 pub struct TableHost<'a> {
-    // A slice that is searched: the library has no heap for a map.
-    rows: &'a [Row],
+    rows: Rows<'a>,
 }
 
 impl<'a> TableHost<'a> {
     pub fn new(rows: &'a [Row]) -> TableHost<'a>
-        ensures { result ≡ record { rows = rows.entry } }
+        ensures { result ≡ record { rows = Listed rows.entry } }
     {
-        TableHost { rows }
+        TableHost {
+            rows: Rows::Listed(rows),
+        }
+    }
+
+    /// By rows of nine bytes, which are read where they lie; a last piece of less than nine is left out.
+    pub fn from_bytes(bytes: &'a [u8]) -> TableHost<'a>
+        ensures { result ≡ record { rows = Spelled bytes.entry } }
+    {
+        TableHost {
+            rows: Rows::Spelled(bytes),
+        }
     }
 }
 
 impl<'a> MathsHost for TableHost<'a> {
-    ghost acts = { record { functions = λ s. tabled s.rows.now; asked = λ s _ _. s } };
+    ghost acts = { record { functions = λ s. tabled (rows_of s.rows); asked = λ s _ _. s } };
 
     ghost same = { λ s f x. refl };
 
-    ghost ranged = { λ s x. restricted_angle (by_rows s.rows.now) x (looked_up_angle s.rows.now x) };
+    ghost ranged = { λ s x. restricted_angle (by_rows (rows_of s.rows)) x (looked_up_angle (rows_of s.rows) x) };
 
-    ghost narrow = { λ s. again (by_rows s.rows.now) };
+    ghost narrow = { λ s. again (by_rows (rows_of s.rows)) };
 
     #[tactic(auto, using(crate::proofs::Alike::asked_within))]
     fn ask(&mut self, f: Function, x: f32) -> f32 {
@@ -66,8 +87,8 @@ impl<'a> MathsHost for TableHost<'a> {
     }
 }
 
-fn looked_up(rows: &[Row], f: Function, x: f32) -> f32
-    ensures { result ≡ apply (by_rows rows.now) f x }
+fn looked_up(rows: Rows<'_>, f: Function, x: f32) -> f32
+    ensures { result ≡ apply (by_rows (rows_of rows.entry)) f x }
 {
     answered(f, first_match(rows, f, x))
 }
@@ -79,10 +100,37 @@ pub fn answered(f: Function, found: Option<Row>) -> f32
     found.map_or(not_a_number(), |row| row.lawful_answer(f))
 }
 
-fn first_match(rows: &[Row], f: Function, x: f32) -> Option<Row>
+fn first_match(rows: Rows<'_>, f: Function, x: f32) -> Option<Row>
+    ensures { result ≡ find (λ r. matches r f x) (rows_of rows.entry) }
+{
+    match rows {
+        Rows::Listed(rows) => first_listed(rows, f, x),
+        Rows::Spelled(bytes) => first_spelled(bytes, f, x),
+    }
+}
+
+fn first_listed(rows: &[Row], f: Function, x: f32) -> Option<Row>
     ensures { result ≡ find (λ r. matches r f x) rows.now }
 {
     rows.iter().copied().find(|row| row.matches(f, x))
+}
+
+#[tactic(auto, using(crate::proofs::Chunks::rows_of_chunks), unfolding(crate::specs::ByteRows::rows_in))]
+fn first_spelled(bytes: &[u8], f: Function, x: f32) -> Option<Row>
+    ensures { result ≡ find (λ r. matches r f x) (rows_in bytes.now) }
+{
+    let (pieces, _) = bytes.as_chunks();
+    first_of(pieces, f, x)
+}
+
+fn first_of(pieces: &[[u8; 9]], f: Function, x: f32) -> Option<Row>
+    ensures { result ≡ find (λ r. matches r f x) (map (λ p. row_at p 0) pieces.now) }
+{
+    pieces
+        .iter()
+        .copied()
+        .map(row)
+        .find(|row| row.matches(f, x))
 }
 
 // An arc cosine out of its range is NaN.

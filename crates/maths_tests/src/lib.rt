@@ -2,7 +2,7 @@
 #![tactic(auto)]
 
 #[cfg(test)]
-mod byte_table;
+mod byte_rows;
 #[cfg(test)]
 mod series;
 #[cfg(test)]

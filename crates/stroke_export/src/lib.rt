@@ -14,8 +14,8 @@ mod drawing;
 
 use crate::answer::Answer;
 use crate::drawing::{drawn, drawn_long};
-use maths::byte_table::ByteTable;
 use maths::series::SeriesHost;
+use maths::table::TableHost;
 use storage::storage128::Storage128;
 
 /// By the series host, with a storage of 128 segments.
@@ -46,7 +46,7 @@ pub extern "C" fn stroke_job_by_rows(rows: &[u8], job: &[u8], bytes: &mut [u8], 
         job,
         bytes,
         &mut Storage128::new(),
-        &mut ByteTable::new(rows),
+        &mut TableHost::from_bytes(rows),
     );
 }
 
@@ -61,5 +61,5 @@ pub extern "C" fn stroke_job_long_by_rows(
     ensures answer { answer.new ≡ told_of (job_drawn (tabled (rows_in rows.now)) 4096 job.now (length bytes.old)) }
     ensures bytes { bytes.new ≡ bytes_of (job_drawn (tabled (rows_in rows.now)) 4096 job.now (length bytes.old)) bytes.old }
 {
-    *answer = drawn_long(job, bytes, &mut ByteTable::new(rows));
+    *answer = drawn_long(job, bytes, &mut TableHost::from_bytes(rows));
 }

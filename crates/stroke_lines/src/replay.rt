@@ -13,7 +13,7 @@ use job::whole::Job;
 use lines::line::PrintedLine;
 use lines::printing::{print, println};
 use lines::reading::read_up_to;
-use maths::byte_table::ByteTable;
+use maths::table::TableHost;
 use path::command::Command;
 use segments::segment::Segment;
 use sinks::record_list::RecordList;
@@ -96,7 +96,7 @@ fn replay_in<W: Write>(
 {
     let mut list = RecordList::new(places);
     let mut storage = LentStorage::new(segments);
-    let mut host = ByteTable::new(setting.rows);
+    let mut host = TableHost::from_bytes(setting.rows);
     let answer = stroke_with_storage(
         job.commands.as_slice(),
         job.style,

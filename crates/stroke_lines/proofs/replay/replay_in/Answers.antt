@@ -1,7 +1,7 @@
 use Rattle.std.proofs.Common.{◌≡◌, [], length, ◌-◌, subst, ap, ◌∙◌, arith}
-use Rattle.maths.specs.Tables.{tabled}
+use Rattle.maths.specs.Tables.{tabled, rows_of}
 use Rattle.maths.specs.ByteRows.{rows_in}
-use Rattle.maths.specs.declared.byte_table.ByteTable.{ByteTable}
+use Rattle.maths.specs.declared.table.TableHost.{TableHost}
 use Rattle.storage.specs.Places.{place_count}
 use Rattle.sinks.specs.Records.{recorded}
 use Rattle.lines.specs.Listing.{accepted}
@@ -16,7 +16,7 @@ pub returns : goal.returns
 returns g c =
     let setting = c.args.setting in
     let answer = c.stroke_with_storage-answer.result in
-    let functions = ap (λ (h : ByteTable). tabled (rows_in h.bytes.now)) c.new-host.ensures in
+    let functions = ap (λ (h : TableHost). tabled (rows_of h.rows)) c.from_bytes-host.ensures in
     let capacity = ap place_count c.new-storage.ensures ∙ c.requires.segments in
     let units : length c.args.places.now - 0 ≡ setting.places = omega (arith, c.requires.places) in
     let empty : recorded c.new-list.result ≡ empty_list setting.places =

@@ -1,5 +1,5 @@
-use maths::byte_table::ByteTable;
 use maths::host::{Function, MathsHost};
+use maths::table::TableHost;
 use std::num::{f32_from_bits_with_nan, f32_to_bits_with_nan};
 
 const NAN: u32 = 0x7fc0_0000;
@@ -10,7 +10,7 @@ const TWO: u32 = 0x4000_0000;
 
 // What a table of bytes answers, by bits.
 fn asked(bytes: &[u8], f: Function, argument: u32) -> u32 {
-    let mut host = ByteTable::new(bytes);
+    let mut host = TableHost::from_bytes(bytes);
     f32_to_bits_with_nan(host.ask(f, f32_from_bits_with_nan(argument)))
 }
 
