@@ -3,7 +3,7 @@ use Rattle.std.specs.Prelude.{ℕ, ◌+◌, ◌-◌, List, [], ◌∷◌, ◌++�
 use denote.Ref.{MutBor, at_last}
 use Rattle.path.specs.declared.command.Command.{Command}
 use Rattle.job.specs.Writing.{written, record_of}
-use Rattle.sinks.specs.Meaning.{Meaning, SinkActs}
+use Rattle.sinks.specs.Meaning.{Meaning, SinkActs, as_they_came}
 use Rattle.job.specs.Decoding.{records}
 use Rattle.job.specs.Tapes.{price}
 use Rattle.job.specs.declared.byte_sink.ByteSink.{ByteSink}
@@ -18,7 +18,7 @@ over b cs = record { bytes = at_last b (overwritten b.now cs); used = length (re
 
 -- the commands as they came; a unit is a byte
 abbrev pub spelling : ByteSink → Meaning
-spelling s = record { list = s.taken.commands; units = length s.bytes.now - s.used; price = price; map = λ c. c }
+spelling s = as_they_came price (length s.bytes.now - s.used) s.taken.commands
 
 -- with one command more: only its record is written
 abbrev pub grown : ByteSink → Command → ByteSink

@@ -4,7 +4,7 @@ use denote.Ref.{MutBor, at_last}
 use Rattle.path.specs.declared.command.Command.{Command}
 use Rattle.path.specs.Kinds.{Kind, move, line, curve, quad, close}
 use Rattle.job.specs.Writing.{written, record_of}
-use Rattle.sinks.specs.Meaning.{Meaning, SinkActs}
+use Rattle.sinks.specs.Meaning.{Meaning, SinkActs, as_they_came}
 use Rattle.job.specs.Decoding.{records}
 
 -- the commands taken, and all the bytes: first the commands' records, then what the places after them held
@@ -25,7 +25,7 @@ price close = 1
 
 -- the commands as they came; a unit is a byte
 abbrev pub spelling : Written → Meaning
-spelling w = record { list = w.commands; units = length w.bytes.now - length (records w.commands); price = price; map = λ c. c }
+spelling w = as_they_came price (length w.bytes.now - length (records w.commands)) w.commands
 
 -- with one command more: only its record is written
 abbrev pub grown : Written → Command → Written

@@ -10,6 +10,10 @@ pub record Meaning : Type 0 where
   pub price : Kind → ℕ
   pub map : Command → Command
 
+-- commands as they came, with so many units left at these prices
+abbrev pub as_they_came : (Kind → ℕ) → ℕ → List Command → Meaning
+as_they_came price units cs = record { list = cs; units = units; price = price; map = λ c. c }
+
 -- a command is taken where its price does not pass the units left
 abbrev pub takes : Meaning → Command → Bool
 takes m c = nat_le (m.price (kind c)) m.units

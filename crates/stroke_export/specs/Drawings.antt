@@ -4,7 +4,7 @@ use denote.Ref.{MutBor}
 use Rattle.maths.specs.Functions.{Functions, no_host}
 use Rattle.path.specs.declared.command.Command.{Command}
 use Rattle.path.specs.declared.refusal.Refusal.{Refusal}
-use Rattle.sinks.specs.Meaning.{Meaning, meaning_acts}
+use Rattle.sinks.specs.Meaning.{Meaning, meaning_acts, as_they_came}
 use Rattle.job.specs.Sayings.{Said, said_by}
 use Rattle.stroke.specs.declared.tally.Tally.{Tally}
 use Rattle.stroke.specs.Outcomes.{Outcome, request, stroked}
@@ -38,7 +38,7 @@ said_drawn F segments j m = drawn_by F segments j.answer j m
 
 -- so many bytes that took nothing
 abbrev pub untouched : ℕ → Meaning
-untouched n = record { list = []; units = n; price = price; map = λ c. c }
+untouched n = as_they_came price n []
 
 -- a job of at most 4,096 commands and 32 dashes, onto so many bytes
 abbrev pub job_drawn : Functions → ℕ → List ℕ → ℕ → Drawn

@@ -3,6 +3,7 @@ use Rattle.std.specs.Prelude.{ℕ, List, [], take}
 use Rattle.maths.specs.Functions.{restricted, Functions, no_host}
 use Rattle.maths.specs.Series.{series}
 use Rattle.sinks.specs.Meaning.{Meaning, meaning_acts}
+use Rattle.sinks.specs.Records.{with_places}
 use Rattle.storage.specs.Meaning.{held_acts, Held, empty_held}
 use Rattle.job.specs.Sayings.{Said, said_by}
 use Rattle.lines.specs.declared.line.PrintedLine.{PrintedLine}
@@ -14,7 +15,7 @@ use Rattle.stroke_lines.specs.Drawn.{drawn_lines}
 
 -- an empty list of so many places
 abbrev pub empty_list : ℕ → Meaning
-empty_list places = record { list = []; units = places; price = λ k. 1; map = λ c. c }
+empty_list places = with_places places []
 
 -- a job stroked by five functions into so many places
 abbrev pub stroked_job : Functions → ℕ → ℕ → ℕ → Said → Stroked Meaning Held (Unit {0})

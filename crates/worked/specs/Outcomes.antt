@@ -6,6 +6,7 @@ use Rattle.path.specs.declared.command.Command.TheVariants.{Close}
 use Rattle.path.specs.declared.refusal.Reason.TheVariants.{StepsSpent}
 use Rattle.path.specs.declared.refusal.Refusal.{Refusal}
 use Rattle.sinks.specs.Meaning.{Meaning}
+use Rattle.sinks.specs.Records.{with_places}
 use Rattle.dashes.specs.declared.dasher.Range.{Range}
 use Rattle.dashes.specs.Dashers.{begun, first_dash}
 use Rattle.dashes.specs.Patterns.{Dashes, pattern_of}
@@ -29,7 +30,7 @@ call F w budget answer = record { commands = commands_of w; style = style_of w; 
 
 -- a list of 1,024 places
 abbrev pub holding : List Command → Meaning
-holding cs = record { list = cs; units = 1024 - length cs; price = λ k. 1; map = λ c. c }
+holding cs = with_places (1024 - length cs) cs
 
 -- The stroke answers so, and leaves an empty list with these commands, whatever the host's functions are.
 pub record Leaves (w : Worked) (budget : ℕ) (answer : Result Tally Refusal) (cs : List Command) : Type 0 where
