@@ -1,2 +1,3 @@
+pub mod Counted
 pub mod Fixed
 pub mod Lent

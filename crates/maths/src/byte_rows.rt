@@ -4,6 +4,9 @@ ghost use Rattle.maths.specs.ByteRows.{row_at, rows_to};
 use crate::table::Row;
 use std::alloc::{AllocError, Global};
 
+/// How many bytes a row has.
+pub const ROW_BYTES: usize = 9;
+
 /// The rows that the bytes hold, nine bytes each; a last piece of less than nine is left out.
 #[tactic(auto, using(crate::proofs::Chunks::rows_of_chunks))]
 pub fn decoded(heap: Global, bytes: &[u8]) -> Result<Vec<Row>, AllocError>

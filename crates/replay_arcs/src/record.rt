@@ -3,10 +3,10 @@ ghost use Rattle.std.specs.Iterator.{at_most};
 
 use arcs::arc_to::{ArcSize, ArcSweep, ArcTo};
 use job::float::float_of;
+use lists::counted::counted;
+use maths::byte_rows::ROW_BYTES;
 use path::geometry::Point;
 use std::num::f64_from_bits_with_nan;
-
-const ROW_BYTES: usize = 9;
 
 /// A point in f64.
 #[derive(Clone, Copy)]
@@ -126,9 +126,7 @@ impl<'a> FromBytes<'a> for Asked<'a> {
     fn first(bytes: &'a [u8]) -> Option<(Asked<'a>, &'a [u8])> {
         let (alone, bytes) = bool::first(bytes)?;
         let (arc, bytes) = ArcTo::first(bytes)?;
-        let (count, bytes) = bytes.split_first_chunk::<4>()?;
-        let count = u32::from_be_bytes(*count) as usize;
-        let (rows, bytes) = bytes.split_at_checked(count.checked_mul(ROW_BYTES)?)?;
+        let (rows, bytes) = counted(bytes, ROW_BYTES)?;
         Some((Asked { alone, arc, rows }, bytes))
     }
 }

@@ -1,7 +1,8 @@
 ghost use Rattle.std.specs.Prelude.{◌≡◌, ◌+◌, length, IfSome};
 ghost use Rattle.std.specs.Iterator.{at_most};
 
-const ROW_BYTES: usize = 9;
+use lists::counted::counted;
+use maths::byte_rows::ROW_BYTES;
 
 /// A drawing: whether its curves are cut, and the bytes of its rows and of its path.
 #[derive(Clone, Copy)]
@@ -61,14 +62,4 @@ fn first_drawing(bytes: &[u8]) -> Option<(Drawing<'_>, &[u8])>
     let (rows, bytes) = counted(bytes, ROW_BYTES)?;
     let (path, bytes) = counted(bytes, 1)?;
     Some((Drawing { split, rows, path }, bytes))
-}
-
-// What follows a count of four bytes: so many parts of a size, and the bytes after them. Another
-// program reads such a count too; for two lines it would be a public function of a library.
-fn counted(bytes: &[u8], size: usize) -> Option<(&[u8], &[u8])>
-    ensures { IfSome result (λ p. 4 + length p.0.now + length p.1.now ≡ length bytes.now) }
-{
-    let (count, bytes) = bytes.split_first_chunk::<4>()?;
-    let count = u32::from_be_bytes(*count) as usize;
-    bytes.split_at_checked(count.checked_mul(size)?)
 }

@@ -1,5 +1,7 @@
-ghost use Rattle.std.specs.Prelude.{◌≡◌, ◌+◌, length, IfSome};
+ghost use Rattle.std.specs.Prelude.{◌≡◌, length};
 ghost use Rattle.std.specs.Iterator.{at_most};
+
+use lists::counted::counted;
 
 /// The records that the bytes hold, each after its length in four bytes; what is cut short is left out.
 #[derive(Drop)]
@@ -21,16 +23,8 @@ impl<'a> Iterator for Records<'a> {
     ghost remaining = { λ s. at_most (length s.bytes.now) };
 
     fn next(&mut self) -> Option<&'a [u8]> {
-        let (record, rest) = first_record(self.bytes)?;
+        let (record, rest) = counted(self.bytes, 1)?;
         self.bytes = rest;
         Some(record)
     }
-}
-
-// The record that the bytes begin with, and the bytes after it.
-fn first_record(bytes: &[u8]) -> Option<(&[u8], &[u8])>
-    ensures { IfSome result (λ p. 4 + length p.0.now + length p.1.now ≡ length bytes.now) }
-{
-    let (count, bytes) = bytes.split_first_chunk::<4>()?;
-    bytes.split_at_checked(u32::from_be_bytes(*count) as usize)
 }
