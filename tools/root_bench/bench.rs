@@ -75,7 +75,16 @@ fn compare(name: &str, xs: &[f32]) {
     println!("  same answers: {same}");
 }
 
+/// Every NaN that the root hands out is 7FC00000, whatever the argument's sign and payload.
+fn see_nan() {
+    for bits in [0xbf80_0000, 0x7f80_0001, 0x7fc0_0000, 0x7fff_ffff, 0xff80_0000, 0xffc0_0000] {
+        let root = unsafe { numbers_sqrt(f32::from_bits(bits)) };
+        assert_eq!(root.to_bits(), 0x7fc0_0000, "the root of {bits:08X}");
+    }
+}
+
 fn main() {
+    see_nan();
     compare("from 1e-6 to 1e9", &ordinary());
     compare("subnormal", &subnormal());
 }
