@@ -3,7 +3,10 @@
 //! of them is printed at the end. At a damaged record a line says so, and nothing follows.
 #![tactic(auto)]
 
-ghost use Rattle.std.specs.Prelude.{◌≡◌};
+ghost use Rattle.std.specs.Prelude.{◌≡◌, true};
+ghost use Rattle.maths.specs.Functions.{restricted};
+ghost use Rattle.maths.specs.Series.{series};
+ghost use Rattle.maths.specs.Tables.{tabled};
 ghost use Rattle.arcs.specs.Ends.{curves_of};
 
 use crate::compared::compare;
@@ -17,7 +20,7 @@ use lines::line::PrintedLine;
 use maths::byte_rows::decoded;
 use maths::host::MathsHost;
 use maths::series::SeriesHost;
-use maths::table::TableHost;
+use maths::table::{Row, TableHost};
 use path::command::Command;
 use std::io;
 use std::io::Read;
@@ -36,16 +39,28 @@ fn main(rt: HostRuntime) -> io::Result<()> {
             Err(Damaged) => return println!(rt; "! a record is damaged"),
             Ok(Record::Asked(asked)) => {
                 let rows = decoded(rt.alloc(), asked.rows)?;
-                let curves = curves(TableHost::new(&rows), asked.arc, asked.alone);
+                let curves = curves_by_rows(asked.arc, asked.alone, &rows);
                 print_curves(&rt, curves.as_slice())?;
             }
             Ok(Record::Noted(noted)) => {
-                let curves = curves(SeriesHost::new(), noted.arc, true);
+                let curves = curves_by_series(noted.arc);
                 summary.count(noted.kind, noted.arc, compare(noted, curves.as_slice()))?;
             }
         }
     }
     print_summary(&rt, summary)
+}
+
+fn curves_by_rows(arc: ArcTo, alone: bool, rows: &[Row]) -> Few
+    ensures { result.items ≡ curves_of (tabled rows.now) alone arc }
+{
+    curves(TableHost::new(rows), arc, alone)
+}
+
+fn curves_by_series(arc: ArcTo) -> Few
+    ensures { result.items ≡ curves_of (restricted series) true arc }
+{
+    curves(SeriesHost::new(), arc, true)
 }
 
 fn curves<K: MathsHost + Drop>(mut host: K, arc: ArcTo, alone: bool) -> Few
