@@ -114,7 +114,7 @@ fn a_tiny_circle(rt: HostRuntime) {
     let to = Point::new(1e-12, 0.0);
     let (n, end) = drawn(circle(1e-12, ArcSize::Small, ArcSweep::Positive, to));
     assert_eq!(rt; n, 1);
-    assert!(rt; near(end, to, 2e-15));
+    assert!(rt; near(end, to, 1e-15));
 }
 
 // Radii that are too small grow to half the chord, however small they are.
@@ -123,7 +123,7 @@ fn too_small_a_radius(rt: HostRuntime) {
     let to = Point::new(8.0, 0.0);
     let (n, end) = drawn(circle(1.0, ArcSize::Small, ArcSweep::Positive, to));
     assert_eq!(rt; n, 2);
-    assert!(rt; near(end, to, 0.0157));
+    assert!(rt; near(end, to, 0.01));
     let to = Point::new(2.0, 0.0);
     for radius in [1e-20, 5.421e-20, 1e-45] {
         let arc = circle(radius, ArcSize::Small, ArcSweep::Positive, to);
